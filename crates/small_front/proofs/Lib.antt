@@ -1,0 +1,13 @@
+pub mod Found
+pub mod GlobalsTable
+pub mod LexLoop
+pub mod Numbers
+pub mod Bytes
+pub mod Steps
+pub mod Lexed
+pub mod Places
+pub mod Statements
+pub mod Bodies
+pub mod Declared
+pub mod Programs
+pub mod ReadLoops

@@ -1,0 +1,12 @@
+pub mod IsWhite
+pub mod IsText
+pub mod Tokens
+pub mod IsReserved
+pub mod HasForm
+pub mod Stands
+pub mod Spelling
+pub mod IsSource
+pub mod Reads
+pub mod Lexing
+pub mod Parsing
+pub mod Named

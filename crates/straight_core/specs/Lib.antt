@@ -1,0 +1,5 @@
+pub mod Straight
+pub mod Machine
+pub mod Views
+pub mod Memory
+pub mod Outcome

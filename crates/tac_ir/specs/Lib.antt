@@ -1,0 +1,13 @@
+pub mod Module
+pub mod Words
+pub mod Layout
+pub mod Effect
+pub mod Path
+pub mod Last
+pub mod Desk
+pub mod Threads
+pub mod Answers
+pub mod CoreRun
+pub mod Lawful
+pub mod Text
+pub mod Edges
