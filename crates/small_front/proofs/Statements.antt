@@ -14,7 +14,6 @@ use Rattle.small_front.specs.declared.token.Placed.{Placed}
 use Rattle.small_front.specs.IsReserved.{is_reserved}
 use Rattle.small_front.specs.HasForm.{IsAction, IsDeclaration, IsDeclared, IsStatement, NamesDiffer}
 use Rattle.small_front.specs.Parsing.{assign_at, mark_at, lvalue_at, named_at, print_at, statement_at, value_at, word_at}
-use Rattle.small_front.specs.Reads.{◌>>=◌}
 use Rattle.small_front.specs.Spelling.{action_items, brackets, mark, name_of, place, statement, value_items, word}
 use Rattle.small_front.specs.Stands.{Item}
 use Rattle.small_front.proofs.Places.{Taken, lvalue_fits, lvalue_taken, lvalue_takes, named_fits, named_taken, named_takes, value_taken, value_takes}
@@ -47,7 +46,7 @@ assign_takes gs name ts x items rest e h =
     let made : Action × List Placed = (Assign to.0.0 value.0.0, end.0.1) in
     let same = same_Some made x end.2 in
     let fits = named_fits gs name ts to.0 to.1 in
-    subst (λ (y : Action × List Placed). Begins y.1 items rest → Begins ts (behind_word gs y.0 items) rest × (first_word gs y.0 ≡ name) × IsAction gs y.0) same
+    subst (λ (y : Action × List Placed). Begins y.1 items rest → Begins ts (behind_word gs y.0 items) rest × (first_word gs y.0 ≡ name) × IsAction gs y.0) {x = made} same
     (λ h.
     let ended = mark_takes 59 value.0.1 end.0 None items rest end.1 tt h in
     let valued = value_takes gs equals.0.1 value.0 (mark 59 None ∷ items) rest value.1 ended in
@@ -64,7 +63,7 @@ print_takes gs ts x items rest e h =
     let end = bind_some (mark_at 59 close.0.1) _ x close.2 in
     let made : Action × List Placed = (Print from.0.0, end.0.1) in
     let same = same_Some made x end.2 in
-    subst (λ (y : Action × List Placed). Begins y.1 items rest → Begins ts (behind_word gs y.0 items) rest × (first_word gs y.0 ≡ codes "putint") × IsAction gs y.0) same
+    subst (λ (y : Action × List Placed). Begins y.1 items rest → Begins ts (behind_word gs y.0 items) rest × (first_word gs y.0 ≡ codes "putint") × IsAction gs y.0) {x = made} same
     (λ h.
     let ended = mark_takes 59 close.0.1 end.0 None items rest end.1 tt h in
     let closed = mark_takes 41 from.0.1 close.0 None (mark 59 None ∷ items) rest close.1 tt ended in

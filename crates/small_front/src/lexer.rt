@@ -13,7 +13,7 @@ use std::alloc::Global;
 fn is_white(byte: u8) -> bool
     ensures { result ≡ is_white byte }
 {
-    byte == b' ' || (9 <= byte && byte < 13)
+    byte == b' ' || (9 <= byte && byte <= 13)
 }
 
 fn is_letter(byte: u8) -> bool

@@ -6,3 +6,5 @@ pub mod Steps
 pub mod Initial
 pub mod Whole
 pub mod Loop
+pub mod Bounded
+pub mod Ends

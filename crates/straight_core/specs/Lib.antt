@@ -3,3 +3,4 @@ pub mod Machine
 pub mod Views
 pub mod Memory
 pub mod Outcome
+pub mod Stays

@@ -6,6 +6,7 @@ ghost use Rattle.tac_ir.specs.CoreRun.{LeastRun, end_by, returned};
 ghost use Rattle.tac_ir.specs.Lawful.{Lawful};
 ghost use Rattle.code_layout.specs.LaidOut.{IsLaidOut, global_start};
 ghost use Rattle.straight_core.specs.Straight.{IsStraight};
+ghost use Rattle.straight_core.specs.Stays.{StaysWithin, IsDoneOrAlarm};
 ghost use Rattle.straight_core.specs.Machine.{exec_from, is_numbered, end_of, end_by_answer, last_returned};
 ghost use Rattle.straight_core.specs.Memory.{areas_from, memory_of};
 ghost use Rattle.straight_core.specs.Views.{state_of, tables_of, IsWhole, IsFirst};
@@ -25,6 +26,9 @@ pub fn run_straight(alloc: Global, m: &Module) -> Result<Journal, Memory>
     requires { IsStraight m.now }
     ensures run { IfOk result (λ j. (input : List ℤ) (budget : ℕ) → 16384 ≤ budget → LeastRun m.now input budget j) }
     ensures lawful { IfOk result (λ j. Lawful m.now j) }
+
+    // Where no pointer leaves the memory, there is no trap.
+    ensures ends { IfOk result (λ j. StaysWithin m.now → IsDoneOrAlarm j.end) }
 {
     let lines = m.code.funs.as_slice()[0].code.as_slice();
     let classes = narrow_classes(alloc, m.classes.list.as_slice())?;

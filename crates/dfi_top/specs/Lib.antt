@@ -1,0 +1,5 @@
+pub mod Job
+pub mod Texts
+pub mod Reply
+pub mod TopCall
+pub mod Stages

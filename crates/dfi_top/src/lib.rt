@@ -1,0 +1,12 @@
+//! The top call: from the words of a command line and the files that they name to one text, a
+//! status and a journal.
+#![tactic(auto)]
+
+mod call;
+mod reply;
+mod words;
+
+pub use call::{Ended, front};
+
+#[cfg(test)]
+mod tests;

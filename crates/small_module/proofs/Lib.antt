@@ -1,0 +1,12 @@
+pub mod Rows
+pub mod OnceLemmas
+pub mod AscendLemmas
+pub mod WriterLemmas
+pub mod ReaderLemmas
+pub mod NumberLemmas
+pub mod ClassLemmas
+pub mod FormLemmas
+pub mod CodeLemmas
+pub mod StraightLemmas
+pub mod LayoutLemmas
+pub mod ShapeLemmas

@@ -1,0 +1,10 @@
+pub mod EachOnce
+pub mod ClassesOf
+pub mod SetsOf
+pub mod CodeOf
+pub mod ModuleOf
+pub mod Fits
+pub mod Writers
+pub mod Readers
+pub mod NumbersOf
+pub mod Sample
