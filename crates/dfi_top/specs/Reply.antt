@@ -7,6 +7,7 @@ use Rattle.tac_ir.specs.declared.run.Journal.{Journal}
 use Rattle.tac_ir.specs.CoreRun.{LeastRun}
 use Rattle.tac_ir.specs.Lawful.{Lawful}
 use Rattle.tac_ir.specs.Text.{text_of}
+use Rattle.straight_core.specs.Stays.{IsDoneOrAlarm}
 use Rattle.small_front.specs.declared.program.Program.{Program}
 use Rattle.small_front.specs.IsSource.{IsSource}
 use Rattle.small_module.specs.ModuleOf.{module_of}
@@ -53,6 +54,8 @@ pub record IsRun (p : Program) (status : ℕ) (text : List ℕ) (j : Journal) : 
   pub lawful : Lawful (module_of p) j
   pub text_is : text ≡ text_of (module_of p) j
   pub status_is : status ≡ status_of j.end
+  -- no address past the memory is reached
+  pub ends : IsDoneOrAlarm j.end
 
 -- behind a good source: the input is loaded, is empty, and the program runs
 abbrev pub RepliesTo : Job → Program → Loaded → ℕ → List ℕ → Journal → Type 0

@@ -1,6 +1,7 @@
 ghost use Rattle.std.specs.Prelude.{◌+◌, None};
 
 use super::*;
+use dfi_base::Memory;
 use dfi_io::{Library, LoadFault, Pad, Shelf};
 use std::alloc::Global;
 use std::process::Abort;
@@ -286,4 +287,37 @@ fn a_failed_write_keeps_the_journal(rt: HostRuntime) -> Result<(), Fail> {
         calls(&rt, alloc, &words, &mut shelf, &mut pad, want)?;
     }
     Ok(())
+}
+
+// A call on the overrun, with what it was given; none where memory was wanted before the call.
+fn overrun_call(alloc: Global) -> Result<(Ended, Pad), Memory> {
+    let mut shelf = Shelf::new(alloc);
+    shelf.put(b"source", OVERRUN.as_bytes())?;
+    shelf.put(b"input", b"")?;
+    let mut pad = Pad::new(alloc);
+    pad.reserve(4096)?;
+    let mut words = Vec::new(alloc);
+    for word in ["replay", "source", "input"] {
+        words.push(String::from_str(alloc, word)?)?;
+    }
+    let ended = front(alloc, &words, &mut shelf, &mut pad);
+    Ok((ended, pad))
+}
+
+// Whichever growth is refused, a call ends as usual, or by status 8 with nothing written.
+#[test]
+fn refused_growth_writes_nothing(rt: HostRuntime) {
+    let Ok((ended, pad)) = overrun_call(rt.alloc()) else {
+        return;
+    };
+    if ended.status == 8 {
+        assert!(rt; pad.bytes().is_empty());
+        assert_eq!(rt; ended.journal.entries.len(), 0);
+    } else {
+        assert_eq!(rt; ended.status, 3);
+        assert_eq!(rt;
+            pad.bytes(),
+            b"alarm read 1 line 6 word 20\nfound class 1 definition 4 line 5\nallowed 2\n".as_slice()
+        );
+    }
 }

@@ -10,3 +10,4 @@ pub mod CodeLemmas
 pub mod StraightLemmas
 pub mod LayoutLemmas
 pub mod ShapeLemmas
+pub mod StaysLemmas

@@ -42,7 +42,8 @@ is_ordered p h = record {
   reach_order = refl;
 }
 
-end-words : (p : Program) → global_start (code_of p) (length (code_of p).globals) ≡ 16 + words_of p.globals
+-- the globals end behind their words
+pub end-words : (p : Program) → global_start (code_of p) (length (code_of p).globals) ≡ 16 + words_of p.globals
 end-words p =
     let globals = map (global_of (lengths_of p.globals)) p.globals in
     let long = length-map globals (λ g. g.shape) in

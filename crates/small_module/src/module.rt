@@ -1,5 +1,6 @@
 ghost use Rattle.std.specs.Prelude.{◌≡◌, ◌<◌, ◌^◌, false, map, replicate, IfOk};
 ghost use Rattle.small_front.specs.HasForm.{HasForm, assignments_of};
+ghost use Rattle.straight_core.specs.Stays.{StaysWithin};
 ghost use Rattle.straight_core.specs.Straight.{IsStraight};
 ghost use Rattle.small_module.specs.CodeOf.{code_of};
 ghost use Rattle.small_module.specs.ModuleOf.{module_of};
@@ -75,6 +76,9 @@ pub fn make_module(alloc: Global, program: &Program) -> Result<Module, Memory>
     requires { HasForm program.now }
     ensures module { IfOk result (λ m. m ≡ module_of program.now) }
     ensures straight { IfOk result (λ m. IsStraight m) }
+
+    // An index is bounded, so no pointer leaves the memory.
+    ensures stays { IfOk result (λ m. StaysWithin m) }
 {
     let code = make_code(alloc, program)?;
     let body = program.body.as_slice();

@@ -38,8 +38,8 @@ set_is temps to v t = go (nat_eq t to) refl
     go true e =
         let same : t ≡ to = eqb-true t to e in
         ⊎_elim (λ (h : t < length temps). inl (ap (λ k. slice_index (slice_set temps k v) t) (sym same) ∙ get_or-set_same temps t v 0 h ∙ sym (ap (λ b. if b then v else slice_index temps t) e)))
-          (λ (h : length temps ≤ t). inr (get_or_past (slice_set temps to v) t 0 (omega (arith, h, length-set temps to v))))
-          (cases_lt t (length temps))
+        (λ (h : length temps ≤ t). inr (get_or_past (slice_set temps to v) t 0 (omega (arith, h, length-set temps to v))))
+        (cases_lt t (length temps))
     go false e = inl (get_or-set_other temps to t v 0 (λ z. both_ways _ e (eq-eqb t to z)) ∙ sym (ap (λ b. if b then v else slice_index temps t) e))
 
 zero_within : (bound : Option ℕ) → IsWithin 0 bound
@@ -50,8 +50,8 @@ zero_within (Some b) = omega arith
 keeps : (bounds : ℕ → Option ℕ) (temps : List ℕ) (to v : ℕ) (bound : Option ℕ) → IsWithin v bound → Within bounds temps → Within (bound_at bounds to bound) (slice_set temps to v)
 keeps bounds temps to v bound low within t =
     ⊎_elim (λ e. subst (λ x. IsWithin x (bound_at bounds to bound t)) (sym e) (go (nat_eq t to)))
-      (λ e. subst (λ x. IsWithin x (bound_at bounds to bound t)) (sym e) (zero_within (bound_at bounds to bound t)))
-      (set_is temps to v t)
+    (λ e. subst (λ x. IsWithin x (bound_at bounds to bound t)) (sym e) (zero_within (bound_at bounds to bound t)))
+    (set_is temps to v t)
   where
     go : (b : Bool) → IsWithin (if b then v else slice_index temps t) (if b then bound else bounds t)
     go true = low
@@ -84,7 +84,7 @@ read_comes : (t : Tables) (bounds : ℕ → Option ℕ) (at to r w : ℕ) (st : 
 unfolding read_step
 read_comes t bounds at to r w st low within =
     subst (λ b. Comes (bound_at bounds to None) (after_read st at to (Op.Read (record { 0 = r }) w) (if b then (if is_class_in t.classes (set_at t.sets r) (slice_index st.table w) then Answer.Value (slice_index st.words w) else Answer.Stop (Stop.Alarm (slice_index st.table w))) else Answer.Stop Stop.Address)))
-      (sym low) (go (is_class_in t.classes (set_at t.sets r) (slice_index st.table w)))
+    (sym low) (go (is_class_in t.classes (set_at t.sets r) (slice_index st.table w)))
   where
     go : (b : Bool) → Comes (bound_at bounds to None) (after_read st at to (Op.Read (record { 0 = r }) w) (if b then Answer.Value (slice_index st.words w) else Answer.Stop (Stop.Alarm (slice_index st.table w))))
     go true = on refl (keeps bounds st.temps to (slice_index st.words w) None tt within)
@@ -94,7 +94,7 @@ write_comes : (t : Tables) (bounds : ℕ → Option ℕ) (at d w v : ℕ) (st : 
 unfolding write_step
 write_comes t bounds at d w v st low within =
     subst (λ b. Comes bounds (if b then goes_on (with_word (with_entry st at (Op.Write (record { 0 = d }) w v) Answer.Unit) w v (class_at t.classes d)) else halts (with_entry st at (Op.Write (record { 0 = d }) w v) (Answer.Stop Stop.Address))))
-      (sym low) (on refl within)
+    (sym low) (on refl within)
 
 -- the places of whole globals are known, and are in the memory
 pub record KnownPlaces (c : Code) (t : Tables) (globals : ℕ) : Type 0 where
@@ -139,7 +139,7 @@ line_leaves c t n globals v line known (l ∷ body) at bounds st all stay within
     let oks = both (is_straight n globals l.instr) _ all in
     let stays = both (reaches bounds l.instr) _ stay in
     go (exec t at l.instr st) (step_comes c t n globals at bounds st l.instr known oks.0 stays.0 within)
-      (λ st2 within2. line_leaves c t n globals v line known body (suc at) (bounds_after c bounds l.instr) st2 oks.1 stays.1 within2)
+    (λ st2 within2. line_leaves c t n globals v line known body (suc at) (bounds_after c bounds l.instr) st2 oks.1 stays.1 within2)
   where
     go : (next : Next) → Comes (bounds_after c bounds l.instr) next
         → ((st2 : State) → Within (bounds_after c bounds l.instr) st2.temps → Leaves (exec_from t (suc at) (body ++ (record { line = line; instr = Instr.Ret v None }) ∷ []) st2))

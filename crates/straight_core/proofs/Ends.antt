@@ -45,6 +45,7 @@ places_known c t placed low = record { is = is; low = in_memory }
     is (Place.Global v []) h = add-zero _ ∙ sym (placed v (omega (arith, ltb-true v (length c.globals) h)))
     is (Place.Global v (k ∷ path)) h = let z : false ≡ true = h in cc
     is (Place.Local v path) h = let z : false ≡ true = h in cc
+
     in_memory : (place : Place) → is_global (length c.globals) place ≡ true → nat_lt (place_at t.places place) 65536 ≡ true
     in_memory (Place.Global v []) h = lt-ltb _ 65536 (omega (arith, start_low c v low, placed v (omega (arith, ltb-true v (length c.globals) h))))
     in_memory (Place.Global v (k ∷ path)) h = let z : false ≡ true = h in cc
@@ -69,6 +70,6 @@ outcome_ends m s j out stays =
     let ret : Lined = record { line = l.line; instr = Instr.Ret l.value None } in
     let code : lines_of m.code 0 ≡ l.body ++ ret ∷ [] = ap (λ funs. lines_in (slice_get funs 0)) s.funs ∙ l.code in
     let left = line_leaves m.code t n (length m.code.globals) l.value l.line (places_known m.code t out.placed s.below_heap) l.body 0 (λ k. None) first l.straight
-        (sym (ap (stay_within m.code (λ k. None)) code) ∙ stays) (λ k. tt) in
+    (sym (ap (stay_within m.code (λ k. None)) code) ∙ stays) (λ k. tt) in
     let here : Leaves (exec_from t 0 s.fun.code first) = subst (λ x. Leaves (exec_from t 0 x first)) (sym l.code) left in
     subst (λ q. IsDoneOrAlarm q.end) (sym out.journal) (leaves_end (exec_from t 0 s.fun.code first) (last_returned s.fun.code) here)

@@ -11,6 +11,8 @@ use Rattle.small_module.specs.ModuleOf.{module_of}
 use Rattle.small_module.specs.Readers.{Ascends}
 use Rattle.small_module.specs.SetsOf.{sets_from, sets_of}
 use Rattle.small_module.proofs.FormLemmas.{fits-from_form, length-sets_from}
+use Rattle.straight_core.specs.Stays.{StaysWithin}
+use Rattle.small_module.proofs.StaysLemmas.{stays_within}
 use Rattle.small_module.proofs.StraightLemmas.{is_ordered, is_straight_line, sets_of-ascends}
 use Rattle.small_module.proofs.module.make_module.Goals as goal
 
@@ -74,3 +76,6 @@ invariant_of-result c = subst (λ (m : Module). IsOrdered m.sets m.removed m.poi
 
 pub returns-clause-straight : goal.returns-clause-straight
 returns-clause-straight c = subst (λ (m : Module). IsStraight m) (sym (made-is c)) (is_straight_line c.args.program.now c.requires)
+
+pub returns-clause-stays : goal.returns-clause-stays
+returns-clause-stays c = subst (λ (m : Module). StaysWithin m) (sym (made-is c)) (stays_within c.args.program.now c.requires)
