@@ -1,5 +1,5 @@
 -- The code of a program is a straight line.
-use Rattle.std.proofs.Common.{◌≡◌, ℕ, suc, ◌+◌, ◌<◌, ◌≤◌, Bool, true, false, ◌&&◌, List, [], ◌∷◌, ◌++◌, length, map, nat_lt, pos, Option, Some, None, refl, sym, ap, subst, ◌∙◌, arith}
+use Rattle.std.proofs.Common.{◌≡◌, ℕ, ◌+◌, ◌<◌, ◌≤◌, Bool, ◌&&◌, List, [], ◌∷◌, ◌++◌, length, map, pos, Option, Some, None, refl, sym, ap, ◌∙◌, arith}
 use Rattle.std.specs.Prelude.{IsTrue, slice_index}
 use Rattle.std.specs.List.{AllByRecursion, list_all}
 use Rattle.std.proofs.lemmas.Bool.{and_from, lt-ltb}
@@ -12,10 +12,9 @@ use Rattle.small_front.specs.declared.program.Action.{Action}
 use Rattle.small_front.specs.declared.program.Lvalue.{Lvalue}
 use Rattle.small_front.specs.declared.program.Statement.{Statement}
 use Rattle.small_front.specs.declared.program.Value.{Value}
-use Rattle.small_front.specs.HasForm.{action_definitions, action_points, assignments_of, index_points, points_of, value_points}
+use Rattle.small_front.specs.HasForm.{action_points, assignments_of, index_points, points_of, value_points}
 use Rattle.small_module.specs.CodeOf.{Numbers, action_code, body_code, lined, numbers_after, place_code, read_instr, temps_of, value_code, value_temp, whole, write_instr}
 use Rattle.small_module.specs.Fits.{FitsAction, FitsPlace, FitsValue}
-use Rattle.small_module.specs.SetsOf.{next_definition, reads_of}
 use Rattle.small_module.proofs.FormLemmas.{reads-few}
 use Rattle.small_module.proofs.WriterLemmas.{next-definitions}
 

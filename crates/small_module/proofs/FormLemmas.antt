@@ -1,5 +1,5 @@
 -- What the rules on a program say of its numbers.
-use Rattle.std.proofs.Common.{◌≡◌, ℕ, zero, suc, ◌+◌, ◌<◌, ◌≤◌, Bool, true, false, List, [], ◌∷◌, ◌++◌, length, map, Option, Some, None, refl, sym, ap, ◌∙◌, arith}
+use Rattle.std.proofs.Common.{ℕ, zero, suc, ◌+◌, ◌<◌, ◌≤◌, Bool, List, [], ◌∷◌, ◌++◌, length, map, Option, Some, None, arith}
 use Rattle.std.specs.List.{AllByRecursion, cons_option, filter_map}
 use Rattle.std.proofs.lemmas.List.{length-append, length-map}
 use Rattle.small_front.specs.declared.program.Action.{Action}
@@ -8,11 +8,11 @@ use Rattle.small_front.specs.declared.program.Lvalue.{Lvalue}
 use Rattle.small_front.specs.declared.program.Program.{Program}
 use Rattle.small_front.specs.declared.program.Statement.{Statement}
 use Rattle.small_front.specs.declared.program.Value.{Value}
-use Rattle.small_front.specs.HasForm.{HasForm, IsAction, IsDeclared, IsPlace, IsStatement, action_points, index_points, length_words, points_of, value_points, words_of}
+use Rattle.small_front.specs.HasForm.{HasForm, HasSmallNumber, IsAction, IsDeclared, IsPlace, IsStatement, action_points, points_of}
 use Rattle.small_module.specs.CodeOf.{lengths_of}
 use Rattle.small_module.specs.Fits.{FitsAction, FitsPlace}
 use Rattle.small_module.specs.SetsOf.{reads_of, set_behind, sets_from}
-use Rattle.small_module.proofs.OnceLemmas.{every_then, length-each_once}
+use Rattle.small_module.proofs.OnceLemmas.{length-each_once}
 
 below-declared : (globals : List Declaration) (k : ℕ) (array : Bool) → IsDeclared globals k array → k < length globals
 below-declared [] k array h = absurd h
@@ -22,13 +22,18 @@ below-declared (d ∷ ds) (suc k) array h = omega (arith, below-declared ds k ar
 fits_place : (globals : List Declaration) (place : Lvalue) → IsPlace globals place → FitsPlace (length globals) place
 fits_place globals place h = record { global = below-declared globals place.global _ h.declared; index = h.index }
 
-fits_action : (globals : List Declaration) (action : Action) → IsAction globals action → FitsAction (length globals) action
-fits_action globals (Action.Assign to (Value.Number n)) h = (fits_place globals to h.0, h.1)
-fits_action globals (Action.Assign to (Value.Read from)) h = (fits_place globals to h.0, fits_place globals from h.1)
-fits_action globals (Action.Print from) h = fits_place globals from h
+fits_action : (globals : List Declaration) (action : Action) → IsAction globals action → HasSmallNumber action → FitsAction (length globals) action
+fits_action globals (Action.Assign to (Value.Number n)) h small = (fits_place globals to h.0, small)
+fits_action globals (Action.Assign to (Value.Read from)) h small = (fits_place globals to h.0, fits_place globals from h.1)
+fits_action globals (Action.Print from) h small = fits_place globals from h
+
+fits_body : (globals : List Declaration) (body : List Statement) → AllByRecursion (IsStatement globals) body → AllByRecursion (λ s. HasSmallNumber s.action) body
+    → AllByRecursion (λ s. FitsAction (length globals) s.action) body
+fits_body globals [] h small = tt
+fits_body globals (s ∷ body) h small = (fits_action globals s.action h.0 small.0, fits_body globals body h.1 small.1)
 
 pub fits-from_form : (p : Program) → HasForm p → AllByRecursion (λ s. FitsAction (length p.globals) s.action) p.body
-fits-from_form p h = every_then (IsStatement p.globals) _ (λ s is. fits_action p.globals s.action is) p.body h.statements
+fits-from_form p h = fits_body p.globals p.body h.statements h.numbers
 
 length-filter : (globals : List Declaration) → length (filter_map (λ d. d.length) globals) ≤ length globals
 length-filter [] = omega arith

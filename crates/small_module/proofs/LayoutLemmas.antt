@@ -1,10 +1,9 @@
 -- The words of shapes and of globals.
-use Rattle.std.proofs.Common.{◌≡◌, ℕ, zero, suc, ◌+◌, ◌*◌, ◌^◌, ◌<◌, ◌≤◌, Bool, true, false, cond, not, ◌||◌, List, [], ◌∷◌, ◌++◌, length, map, get_or, take, reverse, eqb, nat_lt, fold, Option, Some, None, inl, inr, refl, sym, ap, subst, ◌∙◌, arith}
+use Rattle.std.proofs.Common.{◌≡◌, ℕ, zero, suc, ◌+◌, ◌*◌, ◌^◌, ◌<◌, ◌≤◌, Bool, true, false, cond, not, ◌||◌, List, [], ◌∷◌, ◌++◌, length, map, get_or, reverse, eqb, fold, Option, Some, None, refl, sym, ap, ◌∙◌, arith}
 use Rattle.std.specs.Prelude.{IfSome, IsTrue, nat_eq, sum}
-use Rattle.std.specs.List.{AllByRecursion, cons_option, filter_map, list_any, prefix_len, sum_by}
+use Rattle.std.specs.List.{AllByRecursion, cons_option, filter_map, list_any}
 use mathlib.Core.List.{reverse_aux}
-use Rattle.std.proofs.lemmas.Bool.{and_from, eq-eqb, eqb-true, false≢true, lt-ltb, ne_eqb, or_cases}
-use Rattle.std.proofs.lemmas.List.{length-map, take_all}
+use Rattle.std.proofs.lemmas.Bool.{and_from, eq-eqb, eqb-true, false≢true, lt-ltb, ne_eqb}
 use Rattle.std.proofs.lemmas.List.Sums.{sum_by-cons}
 use Rattle.small_front.specs.declared.program.Declaration.{Declaration}
 use Rattle.small_front.specs.HasForm.{length_words, words_of}
@@ -12,7 +11,7 @@ use Rattle.tac_ir.specs.declared.code.Shape.{Shape}
 use Rattle.tac_ir.specs.Layout.{words_by, words_in}
 use Rattle.code_layout.specs.LaidOut.{are_sized}
 use Rattle.small_module.specs.CodeOf.{array_of, global_of, lengths_of, shape_of, shapes_of}
-use Rattle.small_module.specs.EachOnce.{each_once, place_of, with_member}
+use Rattle.small_module.specs.EachOnce.{place_of, with_member}
 use Rattle.small_module.proofs.OnceLemmas.{each_once-has, every_then}
 
 words_in-last : (shape : Shape) (earlier : List Shape) (s : ℕ) → s ≡ length earlier → words_in (shape ∷ earlier) s ≡ words_by (words_in earlier) shape

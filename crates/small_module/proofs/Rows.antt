@@ -1,15 +1,11 @@
 -- The module of a small program, by computation.
-use Rattle.std.specs.Prelude.{◌≡◌, ℕ, false, List, [], ◌∷◌, Some, None, codes, pos, refl}
+use Rattle.std.specs.Prelude.{◌≡◌, ℕ, false, [], ◌∷◌, Some, None, codes, pos, refl}
 use Rattle.dfi_base.specs.declared.numbers.Line.{Line}
-use Rattle.tac_ir.specs.declared.code.Global.{Global}
 use Rattle.tac_ir.specs.declared.code.Instr.{Instr}
-use Rattle.tac_ir.specs.declared.code.Lined.{Lined}
-use Rattle.tac_ir.specs.declared.code.Place.{Place}
 use Rattle.tac_ir.specs.declared.code.Shape.{Shape}
 use Rattle.tac_ir.specs.declared.module.Size.{Size}
 use Rattle.tac_ir.specs.Module.{Module}
 use Rattle.small_front.specs.declared.program.Action.{Action}
-use Rattle.small_front.specs.declared.program.Declaration.{Declaration}
 use Rattle.small_front.specs.declared.program.Lvalue.{Lvalue}
 use Rattle.small_front.specs.declared.program.Program.{Program}
 use Rattle.small_front.specs.declared.program.Statement.{Statement}

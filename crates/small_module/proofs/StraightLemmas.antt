@@ -1,12 +1,12 @@
 -- The module of a program is a straight line that keeps its order.
-use Rattle.std.proofs.Common.{◌≡◌, ℕ, zero, suc, ◌+◌, ◌<◌, ◌≤◌, ◌^◌, Bool, true, false, List, [], ◌∷◌, length, map, replicate, take, reverse, nat_lt, refl, sym, ap, subst, ◌∙◌, arith}
+use Rattle.std.proofs.Common.{◌≡◌, ℕ, zero, suc, ◌+◌, false, List, [], ◌∷◌, length, map, replicate, reverse, nat_lt, refl, sym, ap, subst, ◌∙◌, arith}
 use Rattle.std.specs.Prelude.{IsTrue, not, sum}
 use Rattle.std.specs.List.{AllByRecursion, list_all}
 use Rattle.std.proofs.lemmas.Bool.{and_from}
 use Rattle.std.proofs.lemmas.List.{length-map, length-replicate, take_all}
-use Rattle.tac_ir.specs.Layout.{shapes_of_globals, words_in}
+use Rattle.tac_ir.specs.Layout.{words_in}
 use Rattle.tac_ir.specs.Module.{IsOrdered, is_chain}
-use Rattle.code_layout.specs.LaidOut.{IsLaidOut, global_start}
+use Rattle.code_layout.specs.LaidOut.{global_start}
 use Rattle.straight_core.specs.Straight.{IsLine, IsStraight, is_straight}
 use Rattle.small_front.specs.declared.program.Program.{Program}
 use Rattle.small_front.specs.HasForm.{HasForm, definitions_of, words_of}
@@ -42,7 +42,6 @@ is_ordered p h = record {
   reach_order = refl;
 }
 
--- the globals end behind their words
 pub end-words : (p : Program) → global_start (code_of p) (length (code_of p).globals) ≡ 16 + words_of p.globals
 end-words p =
     let globals = map (global_of (lengths_of p.globals)) p.globals in

@@ -11,7 +11,7 @@ use Rattle.small_front.specs.declared.program.Value.{Value}
 use Rattle.small_front.specs.HasForm.{action_definitions, assignments_of}
 use Rattle.small_module.specs.Fits.{FitsAction}
 use Rattle.small_module.specs.Readers.{Ascends}
-use Rattle.small_module.specs.SetsOf.{found_of, last_of, next_definition, reads_of, set_behind, sets_from, value_reads, writers_by, writers_from, writers_of}
+use Rattle.small_module.specs.SetsOf.{found_of, last_of, next_definition, reads_of, set_behind, sets_from, writers_by, writers_from, writers_of}
 use Rattle.small_module.specs.Writers.{HasWriters, found_in, writers_after}
 use Rattle.small_module.proofs.AscendLemmas.{ascends-higher, ascends-wider}
 

@@ -10,6 +10,7 @@ abbrev pub readers_from : ℕ → List (List ℕ) → ℕ → List ℕ
 readers_from r [] d = []
 readers_from r (set ∷ sets) d = elim (has set d) [ true ↦ r ∷ readers_from (suc r) sets d | false ↦ readers_from (suc r) sets d ]
 
+-- the reads that have definition d in their sets
 abbrev pub readers_of : List (List ℕ) → ℕ → List ℕ
 readers_of sets d = readers_from 1 sets d
 

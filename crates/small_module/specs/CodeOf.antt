@@ -20,16 +20,20 @@ use Rattle.small_front.specs.HasForm.{index_points, value_points}
 
 -- Shapes: 0 is an int, 1 a pointer, and then one for each length of an array, in the order of their first globals.
 
+-- the lengths of the arrays, each once
 abbrev pub lengths_of : List Declaration → List ℕ
 lengths_of globals = each_once nat_eq (filter_map (λ d. d.length) globals)
 
+-- the shape of a global that is declared with this length, or with none
 abbrev pub shape_of : List ℕ → Option ℕ → ℕ
 shape_of lengths None = 0
 shape_of lengths (Some n) = 2 + place_of nat_eq lengths n
 
+-- an array of so many ints
 abbrev pub array_of : ℕ → Shape
 array_of n = Shape.Array n 0
 
+-- all shapes, in the order of their numbers
 abbrev pub shapes_of : List Declaration → List Shape
 shapes_of globals = Shape.Int ∷ Shape.Ptr ∷ map array_of (lengths_of globals)
 
@@ -37,16 +41,19 @@ shapes_of globals = Shape.Int ∷ Shape.Ptr ∷ map array_of (lengths_of globals
 abbrev pub global_shapes : List Declaration → List ℕ
 global_shapes globals = map (λ d. shape_of (lengths_of globals) d.length) globals
 
+-- a declared global, which starts with zeros
 abbrev pub global_of : List ℕ → Declaration → Global
 global_of lengths d = record { shape = shape_of lengths d.length; start = pos 0; line = d.line.0 }
 
 -- Instructions. A statement takes the next temporary, read and definition.
 
+-- the next temporary, read and definition
 pub record Numbers : Type 0 where
   pub temp : ℕ
   pub read : ℕ
   pub def : ℕ
 
+-- a global itself, with no field taken
 abbrev pub whole : ℕ → Place
 whole g = Place.Global g []
 
@@ -63,6 +70,7 @@ place_code shapes place t =
 abbrev pub read_instr : Lvalue → ℕ → ℕ → Instr
 read_instr place t r = elim place.index [ None ↦ Instr.Get t (whole place.global) r | Some i ↦ Instr.Load (t + 4) (t + 3) r ]
 
+-- the right side of an assignment, from temporary t on, where its read has number r
 abbrev pub value_code : List ℕ → Value → ℕ → ℕ → List Instr
 value_code shapes (Value.Number k) t r = Instr.Const t (pos k) ∷ []
 value_code shapes (Value.Read from) t r = place_code shapes from t ++ read_instr from t r ∷ []
@@ -76,6 +84,7 @@ value_temp (Value.Read from) t = t + index_points from.index
 abbrev pub write_instr : Lvalue → ℕ → ℕ → ℕ → Instr
 write_instr place t v d = elim place.index [ None ↦ Instr.Set (whole place.global) v d | Some i ↦ Instr.Store (t + 3) v d ]
 
+-- an action: the place that it writes, the value, and the write; or the place that it reads, the read, and the print
 abbrev pub action_code : List ℕ → Action → Numbers → List Instr
 action_code shapes (Action.Assign to value) n =
     let t = n.temp + index_points to.index in
@@ -83,10 +92,12 @@ action_code shapes (Action.Assign to value) n =
 action_code shapes (Action.Print from) n =
     place_code shapes from n.temp ++ (read_instr from n.temp n.read ∷ Instr.Out (n.temp + index_points from.index) ∷ [])
 
+-- how many temporaries an action takes
 abbrev pub temps_of : Action → ℕ
 temps_of (Action.Assign to value) = index_points to.index + value_points value
 temps_of (Action.Print from) = index_points from.index + 1
 
+-- the next numbers behind an action
 abbrev pub numbers_after : Action → Numbers → Numbers
 numbers_after action n = record {
   temp = n.temp + temps_of action;
@@ -104,9 +115,11 @@ body_code shapes last [] n = lined last (Instr.Const n.temp (pos 0)) ∷ lined l
 body_code shapes last (s ∷ body) n =
     map (lined s.line.0) (action_code shapes s.action n) ++ body_code shapes last body (numbers_after s.action n)
 
+-- the numbers of the first statement, behind the starting definitions of the globals
 abbrev pub first_numbers : List Declaration → Numbers
 first_numbers globals = record { temp = 0; read = 1; def = suc (length globals) }
 
+-- the one function
 abbrev pub main_of : Program → Fun
 main_of p = record {
   params = 0;
@@ -115,6 +128,7 @@ main_of p = record {
   line = p.line.0;
 }
 
+-- the code of a program
 abbrev pub code_of : Program → Code
 code_of p = record {
   shapes = shapes_of p.globals;

@@ -1,5 +1,5 @@
 -- The module of a straight line.
-use Rattle.std.specs.Prelude.{ℕ, ◌+◌, false, [], length, replicate}
+use Rattle.std.specs.Prelude.{false, [], length, replicate}
 use Rattle.tac_ir.specs.declared.module.Size.{Size}
 use Rattle.tac_ir.specs.Module.{Module}
 use Rattle.small_front.specs.declared.program.Program.{Program}

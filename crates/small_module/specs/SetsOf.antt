@@ -1,5 +1,5 @@
 -- The definitions that may have written what a read finds, in a straight line.
-use Rattle.std.specs.Prelude.{ℕ, suc, ◌+◌, Bool, true, false, nat_eq, Option, Some, None, List, [], ◌∷◌, ◌++◌, length, map}
+use Rattle.std.specs.Prelude.{ℕ, suc, true, false, nat_eq, Option, Some, None, List, [], ◌∷◌, ◌++◌, length, map}
 use Rattle.small_front.specs.declared.program.Action.{Action}
 use Rattle.small_front.specs.declared.program.Lvalue.{Lvalue}
 use Rattle.small_front.specs.declared.program.Program.{Program}
@@ -11,10 +11,12 @@ abbrev pub writers_by : ℕ → ℕ → Action → List ℕ → List ℕ
 writers_by g d (Action.Assign to value) later = elim (nat_eq to.global g) [ true ↦ d ∷ later | false ↦ later ]
 writers_by g d (Action.Print from) later = later
 
+-- the definition behind an action, which is definition d if it is an assignment
 abbrev pub next_definition : ℕ → Action → ℕ
 next_definition d (Action.Assign to value) = suc d
 next_definition d (Action.Print from) = d
 
+-- the definitions of these statements that write global g, where the first assignment is definition d
 abbrev pub writers_from : ℕ → ℕ → List Statement → List ℕ
 writers_from g d [] = []
 writers_from g d (s ∷ body) = writers_by g d s.action (writers_from g (next_definition d s.action) body)
@@ -23,6 +25,7 @@ writers_from g d (s ∷ body) = writers_by g d s.action (writers_from g (next_de
 abbrev pub writers_of : ℕ → List Statement → ℕ → List ℕ
 writers_of globals earlier g = suc g ∷ writers_from g (suc globals) earlier
 
+-- the last of a list, alone
 abbrev pub last_of : List ℕ → List ℕ
 last_of [] = []
 last_of (x ∷ []) = x ∷ []
@@ -52,5 +55,6 @@ abbrev pub sets_from : ℕ → List Statement → List Statement → List (List 
 sets_from globals earlier [] = []
 sets_from globals earlier (s ∷ body) = map (set_behind globals earlier) (reads_of s.action) ++ sets_from globals (earlier ++ s ∷ []) body
 
+-- the sets of the reads of a program, in their order
 abbrev pub sets_of : Program → List (List ℕ)
 sets_of p = sets_from (length p.globals) [] p.body

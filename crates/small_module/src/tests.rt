@@ -1,6 +1,6 @@
 ghost use Rattle.std.specs.Prelude.{◌≡◌, ◌≤◌, IfOk};
 ghost use Rattle.std.specs.List.{AllByRecursion};
-ghost use Rattle.small_front.specs.HasForm.{IsStatement, assignments_of, points_of};
+ghost use Rattle.small_front.specs.HasForm.{HasSmallNumber, IsStatement, assignments_of, points_of};
 ghost use Rattle.small_module.specs.Sample.{sample_globals};
 
 use crate::make_module;
@@ -38,6 +38,7 @@ fn globals(alloc: Global) -> Result<Items<Declaration>, Memory>
 /// The module of a program with these globals and this body.
 fn sample_module(alloc: Global, body: &[Statement]) -> Result<Module, Memory>
     requires statements { AllByRecursion (IsStatement sample_globals) body.now }
+    requires numbers { AllByRecursion (λ s. HasSmallNumber s.action) body.now }
     requires points { points_of body.now ≤ 16384 }
     requires assignments { assignments_of body.now ≤ 4000 }
 {

@@ -1,4 +1,4 @@
-use Rattle.std.proofs.Common.{◌≡◌, ◌∙◌, ap, arith, length, suc}
+use Rattle.std.proofs.Common.{◌∙◌, ap, arith, length, suc}
 use Rattle.std.proofs.lemmas.List.{length-set}
 use Rattle.small_module.proofs.AscendLemmas.{ascends-at}
 use Rattle.small_module.proofs.ReaderLemmas.{adds_reader-more}

@@ -1,4 +1,4 @@
-use Rattle.std.proofs.Common.{◌≡◌, ◌<◌, ◌≤◌, ◌∙◌, ap, arith, get_or, length, subst, sym, take}
+use Rattle.std.proofs.Common.{◌≡◌, ◌∙◌, ap, arith, get_or, subst, sym, take}
 use Rattle.std.proofs.lemmas.List.{take_all}
 use Rattle.small_module.specs.Readers.{HasReaders}
 use Rattle.small_module.proofs.ReaderLemmas.{has_readers-more, rows-has_readers}

@@ -1,10 +1,9 @@
 use Rattle.std.proofs.Common.{◌≡◌, ℕ, suc, ◌++◌, [], ◌∷◌, List, length, map, sym, ap, subst, ◌∙◌, arith}
 use Rattle.std.specs.List.{AllByRecursion}
 use Rattle.std.proofs.lemmas.List.{length-map}
-use Rattle.tac_ir.specs.declared.code.Fun.{Fun}
 use Rattle.tac_ir.specs.declared.code.Shape.{Shape}
 use Rattle.small_front.specs.declared.program.Statement.{Statement}
-use Rattle.small_module.specs.CodeOf.{array_of, body_code, code_of, global_of, global_shapes, lengths_of, main_of, shape_of}
+use Rattle.small_module.specs.CodeOf.{array_of, body_code, global_of, global_shapes, lengths_of, main_of, shape_of}
 use Rattle.small_module.specs.Fits.{FitsAction}
 use Rattle.small_module.proofs.ShapeLemmas.{shapes-mapped}
 use Rattle.small_module.proofs.FormLemmas.{fits-from_form, length-lengths_of}

@@ -1,4 +1,4 @@
-use Rattle.std.proofs.Common.{◌≡◌, ◌++◌, [], None, ◌∙◌, ap, arith, get_or, map}
+use Rattle.std.proofs.Common.{◌++◌, [], None, ◌∙◌, ap, arith, get_or, map}
 use Rattle.small_front.specs.declared.program.Statement.{Statement}
 use Rattle.small_front.specs.declared.program.Action.{Action}
 use Rattle.small_front.specs.declared.program.Value.{Value}
