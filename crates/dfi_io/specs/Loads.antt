@@ -18,9 +18,9 @@ load_of f name limit =
     let bytes = unwrap_or (file_of f.files name) [] in
     if load_fails f name then Err Failed else (if nat_lt limit (length bytes) then Err Long else Ok bytes)
 
--- one load counted, and all else as it was
-abbrev pub after_load : Files → Files
-after_load f = record f { loads = counted f.loads }
+-- one load with this limit counted, and all else as it was
+abbrev pub after_load : ℕ → Files → Files
+after_load limit f = record f { loads = counted f.loads; limit = limit }
 
 -- a fault, where it is not want of memory
 abbrev pub load_refusal : LoadFault → Option LoadFault

@@ -14,12 +14,12 @@ pub record ShelfView : Type 0 where
 abbrev pub shelf_with_file : ShelfView → List ℕ → List ℕ → ShelfView
 shelf_with_file shelf name bytes = record shelf { told = record shelf.told { files = (name, bytes) ∷ shelf.told.files } }
 
--- a shelf after a load of this name: a load that fails is a fault and takes nothing, and another takes the whole file
-abbrev pub shelf_after_load : ShelfView → List ℕ → ShelfView
-shelf_after_load shelf name =
+-- a shelf after a load of this name with this limit: a load that fails is a fault and takes nothing, and another takes the whole file
+abbrev pub shelf_after_load : ShelfView → List ℕ → ℕ → ShelfView
+shelf_after_load shelf name limit =
     let fails = load_fails shelf.told name in
     record {
-      told = after_load shelf.told;
+      told = after_load limit shelf.told;
       faults = if fails then counted shelf.faults else shelf.faults;
       took = if fails then 0 else length (unwrap_or (file_of shelf.told.files name) []);
     }

@@ -116,6 +116,7 @@ impl<R: Files + Drop> Library for Folder<R> {
         ensures cause { HasCause self.old.faults self.new.faults (IsErrOf result LoadFault.Failed) }
         ensures faults { self.new.faults ≡ faults_after_load self.old.faults result }
         ensures within { IsWithin limit self.new.took result }
+        ensures bounded { self.new.took ≤ limit + 1 }
     {
         match read_named(&self.rt, alloc, name, limit) {
             Ok(bytes) => {

@@ -8,7 +8,8 @@ use std::alloc::Global;
 
 /// Files by name. Loads are counted from 0.
 pub trait Library {
-    /// Its files, the loads that are to fail, and how many loads there were, where it tells them.
+    /// Its files, the loads that are to fail, how many loads there were and the limit of the
+    /// last, where it tells them.
     ghost told: { Self → Option Files };
 
     /// How often a load has failed, up to the greatest `u64`.
@@ -19,7 +20,7 @@ pub trait Library {
 
     /// The bytes of the file of this name, where they are no more than the limit.
     fn load(&mut self, alloc: Global, name: &[u8], limit: u64) -> Result<Vec<u8>, LoadFault>
-        ensures told { told self.new ≡ option_map after_load (told self.old) }
+        ensures told { told self.new ≡ option_map (after_load limit) (told self.old) }
         ensures answer { IfSome (told self.old) (λ files. LoadAnswers files name.now limit result) }
         ensures cause { HasCause (faults self.old) (faults self.new) (IsErrOf result LoadFault.Failed) }
         ensures within { IsWithin limit (took self.new) result };

@@ -33,6 +33,7 @@ pub struct Shelf {
     files: Vec<Entry>,
     plan: Vec<u64>,
     loads: u64,
+    limit: u64,
     faults: u64,
     took: u64,
 }
@@ -43,7 +44,7 @@ impl Model for Shelf {
     ghost Value = { ShelfView };
 
     ghost view = { λ shelf. record {
-      told = record { files = shelf.files.items; plan = shelf.plan.items; loads = shelf.loads };
+      told = record { files = shelf.files.items; plan = shelf.plan.items; loads = shelf.loads; limit = shelf.limit };
       faults = shelf.faults;
       took = shelf.took;
     } };
@@ -53,7 +54,7 @@ impl Shelf {
     /// A library of no files, which no load has asked yet.
     pub fn new(alloc: Global) -> Shelf
         ensures { result ≡ record {
-          told = record { files = []; plan = []; loads = 0 };
+          told = record { files = []; plan = []; loads = 0; limit = 0 };
           faults = 0;
           took = 0;
         } }
@@ -63,6 +64,7 @@ impl Shelf {
             files: Vec::new(alloc),
             plan: Vec::new(alloc),
             loads: 0,
+            limit: 0,
             faults: 0,
             took: 0,
         }
@@ -111,12 +113,13 @@ impl Library for Shelf {
     ghost took = { λ shelf. shelf.took };
 
     fn load(&mut self, alloc: Global, name: &[u8], limit: u64) -> Result<Vec<u8>, LoadFault>
-        ensures after { self.new ≡ shelf_after_load self.old name.now }
+        ensures after { self.new ≡ shelf_after_load self.old name.now limit }
         ensures answer { LoadAnswers self.old.told name.now limit result }
         ensures cause { HasCause self.old.faults self.new.faults (IsErrOf result LoadFault.Failed) }
     {
         let planned = self.plan.contains(&self.loads);
         self.loads = self.loads.saturating_add(1);
+        self.limit = limit;
         match find(&self.files, name) {
             Some(bytes) if !planned => {
                 self.took = bytes.len() as u64;

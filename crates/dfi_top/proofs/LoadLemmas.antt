@@ -1,5 +1,5 @@
 -- From the clauses of a load to what it gave.
-use Rattle.std.proofs.Common.{◌≡◌, ℕ, Option, None, Some, Result, Ok, Err, IfSome, IsErrOf, option_map, List, Vec, sym, refl, arith}
+use Rattle.std.proofs.Common.{◌≡◌, ℕ, Option, None, Some, Result, Ok, Err, IfSome, IsErrOf, option_map, List, Vec, sym, refl}
 use Rattle.std.specs.declared.alloc.Global.{Global}
 use Rattle.dfi_io.specs.Causes.{HasCause}
 use Rattle.dfi_io.specs.Files.{Files}
@@ -13,7 +13,7 @@ use Rattle.dfi_top.specs.Stages.{IsLoad}
 
 -- the clauses of one load
 pub record LoadFacts {Lib : Type 0} (told : Lib → Option Files) (faults took : Lib → ℕ) (name : List ℕ) (limit : ℕ) (lib lib' : Lib) (result : Result (Vec ℕ Global) LoadFault) : Type 0 where
-  pub told_is : told lib' ≡ option_map after_load (told lib)
+  pub told_is : told lib' ≡ option_map (after_load limit) (told lib)
   pub answer : IfSome (told lib) (λ files. LoadAnswers files name limit result)
   pub cause : HasCause (faults lib) (faults lib') (IsErrOf result Failed)
   pub within : loads.IsWithin limit (took lib') result
@@ -27,7 +27,7 @@ pub load_ok : {Lib : Type 0} {told : Lib → Option Files} {faults took : Lib �
 load_ok {told = told} {name = name} {limit = limit} {lib = lib} {v = v} h = record {
   counted = h.told_is;
   answer = if_some_weaker (told lib) _ (λ f. Ok v.items ≡ load_of f name limit) (λ f e. sym e) h.answer;
-  within = omega (arith, h.within);
+  within = h.within;
   faults_stay = h.cause.later;
   fault = λ e. absurd (cc);
 }

@@ -51,17 +51,22 @@ pub record IsProgram (bytes : List ℕ) (p : Program) : Type 0 where
 -- the run of a program without input: the one core run of its module along the least runnable names, with 1,000,000 entries at most
 pub record IsRun (p : Program) (status : ℕ) (text : List ℕ) (j : Journal) : Type 0 where
   pub run : LeastRun (module_of p) [] 1000000 j
+  pub only : (k : Journal) → LeastRun (module_of p) [] 1000000 k → k ≡ j
   pub lawful : Lawful (module_of p) j
   pub text_is : text ≡ text_of (module_of p) j
   pub status_is : status ≡ status_of j.end
   -- no address past the memory is reached
   pub ends : IsDoneOrAlarm j.end
 
--- behind a good source: the input is loaded, is empty, and the program runs
+-- a program runs on no bytes, and any byte is refused
+abbrev pub RepliesToBytes : Program → List ℕ → ℕ → List ℕ → Journal → Type 0
+RepliesToBytes p [] status text j = IsRun p status text j
+RepliesToBytes p (b ∷ bytes) status text j = Refuses 1 not_built_text status text j
+
+-- behind a good source the input is loaded, and the program is replied to on its bytes
 abbrev pub RepliesTo : Job → Program → Loaded → ℕ → List ℕ → Journal → Type 0
 RepliesTo job p (Err fault) status text j = RefusesLoad job.input fault status text j
-RepliesTo job p (Ok []) status text j = IsRun p status text j
-RepliesTo job p (Ok (b ∷ bytes)) status text j = Refuses 1 not_built_text status text j
+RepliesTo job p (Ok bytes) status text j = RepliesToBytes p bytes status text j
 
 -- The whole reply, in the order of refusals: words, load of the source, its form, load of the input, its bytes. A file
 -- that was not reached has no load.

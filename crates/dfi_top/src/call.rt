@@ -1,7 +1,8 @@
 ghost use Rattle.std.specs.Prelude.{◌≡◌, ◌≤◌, ◌<◌, Some, map, string_bytes, length, IfOk};
 ghost use Rattle.dfi_top.specs.Job.{job_of};
-ghost use Rattle.dfi_top.specs.Stages.{HandsOver, MayLoad, Replied, RepliesToBytes, RepliesToInput, RepliesToSource, HasLoaded};
-ghost use Rattle.dfi_top.specs.TopCall.{TopCall, file_limit};
+ghost use Rattle.dfi_top.specs.Reply.{RepliesToBytes};
+ghost use Rattle.dfi_top.specs.Stages.{LoadsInput, MayLoad, RepliesToInput, RepliesToSource};
+ghost use Rattle.dfi_top.specs.TopCall.{HandsOver, HasLoaded, Replied, TopCall, file_limit};
 ghost use Rattle.small_front.specs.HasForm.{HasForm};
 
 use crate::reply::{Reply, no_journal, refuse_bytes, refuse_load, refuse_words, run_program};
@@ -52,7 +53,7 @@ fn reply_to_program<L: Library>(
     requires { HasForm program.now }
     ensures reply { IfOk result (λ r. RepliesToInput L.told L.faults L.took job.now program.now
         lib.old lib.new r.status r.text.items r.journal) }
-    ensures loads { MayLoad L.told L.faults lib.old lib.new }
+    ensures loads { LoadsInput L.told L.faults lib.old lib.new }
 {
     let input_name = job.input();
     match lib.load(alloc, input_name, INPUT_LIMIT) {
@@ -71,7 +72,7 @@ fn reply_to_source<L: Library>(
     requires { length source.now ≤ file_limit }
     ensures reply { IfOk result (λ r. RepliesToSource L.told L.faults L.took job.now source.now
         lib.old lib.new r.status r.text.items r.journal) }
-    ensures loads { MayLoad L.told L.faults lib.old lib.new }
+    ensures loads { MayLoad L.told L.faults source.now lib.old lib.new }
 {
     match read_source(alloc, source) {
         Ok(program) => reply_to_program(alloc, job, &program, lib),
@@ -84,7 +85,7 @@ fn reply_to_source<L: Library>(
 fn reply_to_job<L: Library>(alloc: Global, job: &Job<'_>, lib: &mut L) -> Result<Reply, Memory>
     ensures reply { IfOk result (λ r. Replied L.told L.faults L.took (Some job.now)
         lib.old lib.new r.status r.text.items r.journal) }
-    ensures loads { HasLoaded L.told L.faults lib.old lib.new }
+    ensures loads { HasLoaded L.told L.faults (Some job.now) lib.old lib.new }
 {
     let source_name = job.file();
     match lib.load(alloc, source_name, FILE_LIMIT) {
@@ -97,7 +98,8 @@ fn reply_to_job<L: Library>(alloc: Global, job: &Job<'_>, lib: &mut L) -> Result
 fn reply_to_words<L: Library>(alloc: Global, words: &[String], lib: &mut L) -> Result<Reply, Memory>
     ensures reply { IfOk result (λ r. Replied L.told L.faults L.took
         (job_of (map string_bytes words.now)) lib.old lib.new r.status r.text.items r.journal) }
-    ensures loads { HasLoaded L.told L.faults lib.old lib.new }
+    ensures loads { HasLoaded L.told L.faults (job_of (map string_bytes words.now))
+        lib.old lib.new }
 {
     match read_words(words) {
         Some(job) => reply_to_job(alloc, &job, lib),

@@ -1,6 +1,6 @@
-use Rattle.std.proofs.Common.{Ok, Err, [], Some, None}
+use Rattle.std.proofs.Common.{inl}
 use Rattle.std.proofs.lemmas.Result.{IfOk-weaker}
-use Rattle.dfi_top.proofs.ReplyLemmas.{job_loaded, job_refused, loads_after}
+use Rattle.dfi_top.proofs.ReplyLemmas.{job_loaded, job_loads, job_refused}
 use Rattle.dfi_top.proofs.call.reply_to_job.Goals as goal
 
 pub returns-in-Ok-clause-reply : goal.returns-in-Ok-clause-reply
@@ -12,7 +12,9 @@ returns-in-Ok-clause-reply g c =
 
 pub returns-in-Ok-clause-loads : goal.returns-in-Ok-clause-loads
 returns-in-Ok-clause-loads g c =
-    loads_after g.L.Library.told g.L.Library.faults c.args.lib.now c.load.new.self c.reply_to_source.new.lib (Ok []) c.load.ensures.told c.load.ensures.cause.later c.reply_to_source.ensures.loads
+    job_loads {took = g.L.Library.took} c.args.job.now _ _ c.file-source_name.ensures c.deref.ensures.value
+    (record { told_is = c.in-Ok.ensures.told; answer = c.in-Ok.ensures.answer; cause = c.in-Ok.ensures.cause; within = c.in-Ok.ensures.within })
+    c.reply_to_source.ensures.loads
 
 pub returns-in-Err-clause-reply : goal.returns-in-Err-clause-reply
 returns-in-Err-clause-reply g c =
@@ -23,4 +25,4 @@ returns-in-Err-clause-reply g c =
 
 pub returns-in-Err-clause-loads : goal.returns-in-Err-clause-loads
 returns-in-Err-clause-loads g c =
-    record { file = Some (Err c.in-Err.fault); input = None; loads = c.load.ensures.told; faults_stay = c.load.ensures.cause.later }
+    record { loads = inl c.load.ensures.told; untouched = λ e. absurd (cc); faults_stay = c.load.ensures.cause.later }
