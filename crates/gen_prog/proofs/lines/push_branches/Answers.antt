@@ -1,0 +1,6 @@
+use Rattle.gen_prog.specs.Program.{branches_line}
+use Rattle.gen_prog.proofs.Growth.{grown}
+use Rattle.gen_prog.proofs.lines.push_branches.Goals as goal
+
+pub loop-k-preserved : goal.loop-k-preserved
+loop-k-preserved c = grown branches_line c.loop-k.k _ _ _ c.loop-k.invariant c.in_ok-push_branches_of.ensures

@@ -1,0 +1,15 @@
+//! The desk: the live blocks of the heap, and how far the input was read.
+#![tactic(auto)]
+
+mod block;
+mod desk;
+mod fault;
+mod gaps;
+mod law;
+mod places;
+#[cfg(test)]
+mod tests;
+
+pub use desk::Desk;
+pub use fault::{NotLive, TakeFault};
+pub use law::{blocks_of_a_run, desk_follows_run, same_blocks_serve_alike};
