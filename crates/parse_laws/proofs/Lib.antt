@@ -1,0 +1,10 @@
+pub mod Forms
+pub mod Bind
+pub mod Carry
+pub mod Steps
+pub mod Heads
+pub mod Verdicts
+pub mod One
+pub mod Repeat
+pub mod Binary
+pub mod BracketSums
