@@ -1,0 +1,13 @@
+pub mod Tables
+pub mod Numbers
+pub mod NameLemmas
+pub mod MarkTable
+pub mod Front
+pub mod Steps
+pub mod Unique
+pub mod Rules
+pub mod OneMeaning
+pub mod SomeMeaning
+pub mod Closed
+pub mod SpaceForComment
+pub mod Rows

@@ -1,0 +1,14 @@
+pub mod Bytes
+pub mod Constant
+pub mod Words
+pub mod Marks
+pub mod PieceOf
+pub mod IsPiece
+pub mod Tokens
+pub mod Names
+pub mod IsLexed
+pub mod FirstFault
+pub mod OneMeaning
+pub mod CommentIsSpace
+pub mod Scanning
+pub mod Reading

@@ -1,0 +1,25 @@
+-- Punctuators (C99 6.4.6), and the bytes that spell them.
+use Rattle.std.specs.Prelude.{ℕ, List, [], ◌∷◌, Option, bytes_eq, codes}
+use Rattle.c_lex.specs.declared.token.Mark.{Mark}
+use Rattle.c_lex.specs.declared.token.Mark.TheVariants as marks
+use Rattle.c_lex.specs.Words.{look_up}
+
+-- the marks; that longer ones come first is of use to who looks for one at the front of bytes
+unfoldable pub spellings : List (List ℕ × Mark)
+spellings =
+    (codes "<<=", marks.ShiftLeftAssign) ∷ (codes ">>=", marks.ShiftRightAssign) ∷ (codes "->", marks.Arrow)
+    ∷ (codes "<=", marks.LessEqual) ∷ (codes ">=", marks.GreaterEqual) ∷ (codes "==", marks.Equal) ∷ (codes "!=", marks.NotEqual)
+    ∷ (codes "&&", marks.AndAnd) ∷ (codes "||", marks.OrOr) ∷ (codes "<<", marks.ShiftLeft) ∷ (codes ">>", marks.ShiftRight)
+    ∷ (codes "+=", marks.PlusAssign) ∷ (codes "-=", marks.MinusAssign) ∷ (codes "*=", marks.StarAssign)
+    ∷ (codes "/=", marks.SlashAssign) ∷ (codes "%=", marks.PercentAssign) ∷ (codes "&=", marks.AndAssign)
+    ∷ (codes "|=", marks.OrAssign) ∷ (codes "^=", marks.XorAssign) ∷ (codes "++", marks.PlusPlus) ∷ (codes "--", marks.MinusMinus)
+    ∷ (codes "{", marks.OpenBrace) ∷ (codes "}", marks.CloseBrace) ∷ (codes "(", marks.OpenParen) ∷ (codes ")", marks.CloseParen)
+    ∷ (codes "[", marks.OpenBracket) ∷ (codes "]", marks.CloseBracket) ∷ (codes ";", marks.Semicolon) ∷ (codes ",", marks.Comma)
+    ∷ (codes ".", marks.Dot) ∷ (codes "=", marks.Assign) ∷ (codes "+", marks.Plus) ∷ (codes "-", marks.Minus)
+    ∷ (codes "*", marks.Star) ∷ (codes "/", marks.Slash) ∷ (codes "%", marks.Percent) ∷ (codes "&", marks.And)
+    ∷ (codes "|", marks.Or) ∷ (codes "^", marks.Xor) ∷ (codes "~", marks.Tilde) ∷ (codes "!", marks.Not) ∷ (codes "<", marks.Less)
+    ∷ (codes ">", marks.Greater) ∷ []
+
+-- the mark that the text spells, if any
+unfoldable pub mark_of : List ℕ → Option Mark
+mark_of text = look_up (λ row. bytes_eq text row.0) (λ row. row.1) spellings
