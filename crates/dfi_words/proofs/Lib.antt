@@ -1,0 +1,12 @@
+mod Forms
+mod Splits
+mod Rows
+mod Rules
+mod Turns
+mod Ends
+mod Reading
+mod Found
+mod Parses
+mod Unique
+mod Jobs
+mod Runs
