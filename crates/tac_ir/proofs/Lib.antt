@@ -6,3 +6,6 @@ pub mod Checked
 pub mod OneRun
 pub mod RowRuns
 pub mod RowJoin
+pub mod FormNumbers
+pub mod ShapeWords
+pub mod FormTest

@@ -11,3 +11,8 @@ pub mod CoreRun
 pub mod Lawful
 pub mod Text
 pub mod Edges
+pub mod Numbers
+pub mod Counts
+pub mod Places
+pub mod Regions
+pub mod GoodForm

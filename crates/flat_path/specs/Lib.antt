@@ -1,0 +1,10 @@
+pub mod Asked
+pub mod Standing
+pub mod Begins
+pub mod Told
+pub mod Wants
+pub mod InPlace
+pub mod Runs
+pub mod Alive
+pub mod Returned
+pub mod Fits

@@ -1,0 +1,8 @@
+pub mod Usable
+pub mod Silent
+pub mod Runs
+pub mod Held
+pub mod Sized
+pub mod Trees
+pub mod Forking
+pub mod Samples

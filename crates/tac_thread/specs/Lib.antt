@@ -1,0 +1,17 @@
+pub mod Meaning
+pub mod Numbered
+pub mod Fetched
+pub mod Life
+pub mod Flat
+pub mod Doing
+pub mod Answered
+pub mod RunsOn
+pub mod Begun
+pub mod Guests
+pub mod Resuming
+pub mod Left
+pub mod Paths
+pub mod Threads
+pub mod Settling
+pub mod Bytes
+pub mod Samples

@@ -1,0 +1,26 @@
+//! One thread of three-address code over any values, and all threads of a run. `specs/` says what a domain of values
+//! answers, and what each event makes of a thread.
+#![tactic(auto)]
+
+mod answer;
+mod calls;
+mod doing;
+mod domain;
+mod fetch;
+mod flat;
+mod forks;
+mod guest;
+mod resume;
+mod run;
+mod sizes;
+mod temps;
+#[cfg(test)]
+mod tests;
+mod tree;
+mod want;
+
+pub use domain::Domain;
+pub use flat::{FlatStack, FlatWords};
+pub use guest::Guest;
+pub use tree::Tree;
+pub use want::{Reply, ReplyOf, Want};
