@@ -1,0 +1,12 @@
+use Rattle.std.proofs.Common.{◌≡◌, ◌-◌}
+use Rattle.parse_laws.specs.Parsing.{turns}
+use Rattle.c_lex.specs.declared.token.Mark.{Mark}
+use Rattle.c_parse.specs.Tokens.{is_mark}
+use Rattle.c_parse.specs.ProgramParser as spec
+use Rattle.c_parse.specs.TypeParser.{after_comma, declarator}
+use Rattle.parse_laws.specs.Parsing.{found_and, ◌<$>◌}
+use Rattle.c_parse.specs.Tokens.{goes}
+use Rattle.c_parse.proofs.programs.more_declarators.Given as goal
+
+abbrev pub invariant-loop-turn : goal.invariant-loop-turn
+invariant-loop-turn l = spec.more_declarators l.fn.found l.fn.cursor ≡ turns (goes (is_mark Mark.Comma)) (λ found. found_and found <$> after_comma declarator) (l.turns - l._turn) l.found l.cursor

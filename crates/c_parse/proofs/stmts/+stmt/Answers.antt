@@ -1,0 +1,12 @@
+use Rattle.std.proofs.Common.{rules, ◌≡◌, true, sym, subst, ◌<◌, ◌≤◌, arith}
+use Rattle.std.proofs.lemmas.Grind.{common_steps}
+use Rattle.c_parse.specs.Tokens.{next, kind_of}
+use Rattle.c_parse.specs.Sorts.{is_stmt}
+use Rattle.c_parse.specs.Reads.{Reads}
+use Rattle.c_parse.proofs.Knots.{stmt_step}
+use Rattle.c_parse.proofs.stmts.+stmt.Goals as goal
+
+pub returns : goal.returns
+returns t c =
+    let e : is_stmt (kind_of (next c.args.cursor.now)) ≡ true = first_of (search rules, grind (arith, common_steps)) in
+    subst (λ z. Reads z c.statement.result c.statement.new.cursor) (sym (stmt_step c.args.fuel c.args.counter c.args.cursor.now (omega arith) e (omega arith))) c.statement.ensures

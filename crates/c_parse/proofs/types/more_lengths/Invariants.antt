@@ -1,0 +1,11 @@
+use Rattle.std.proofs.Common.{◌≡◌, ◌-◌}
+use Rattle.parse_laws.specs.Parsing.{turns}
+use Rattle.c_lex.specs.declared.token.Mark.{Mark}
+use Rattle.c_parse.specs.Tokens.{is_mark}
+use Rattle.c_parse.specs.TypeParser as spec
+use Rattle.parse_laws.specs.Parsing.{found_and, ◌<$>◌}
+use Rattle.c_parse.specs.Tokens.{goes}
+use Rattle.c_parse.proofs.types.more_lengths.Given as goal
+
+abbrev pub invariant-loop-turn : goal.invariant-loop-turn
+invariant-loop-turn l = spec.more_lengths l.fn.found l.fn.cursor ≡ turns (goes (is_mark Mark.OpenBracket)) (λ found. found_and found <$> spec.bracketed) (l.turns - l._turn) l.found l.cursor

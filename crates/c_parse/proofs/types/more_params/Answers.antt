@@ -1,0 +1,36 @@
+use Rattle.std.proofs.Common.{rules, arith, refl, ◌+◌}
+use Rattle.std.proofs.lemmas.Grind.{common_steps}
+use Rattle.c_lex.specs.declared.token.Mark.{Mark}
+use Rattle.c_parse.specs.Tokens.{is_mark}
+use Rattle.c_parse.specs.TypeParser as spec
+use Rattle.parse_laws.specs.Parsing.{found_and, ◌<$>◌}
+use Rattle.c_parse.proofs.Loops.{turn_first, turn_more, turn_none}
+use Rattle.c_parse.proofs.types.more_params.Goals as goal
+
+pub loop-turn-init : goal.loop-turn-init
+loop-turn-init c = turn_first (is_mark Mark.Comma) refl (λ found. found_and found <$> spec.after_comma spec.param) _ _ _ (omega arith)
+
+pub returns-then-not-is_mark : goal.returns-then-not-is_mark
+returns-then-not-is_mark c =
+    let e = turn_more (is_mark Mark.Comma) refl (λ found. found_and found <$> spec.after_comma spec.param) _ _ _ _ _ c.loop-turn.invariant c.loop-turn-test.true in
+    first_of (search rules, grind (arith, common_steps))
+
+pub returns-in_err-mark : goal.returns-in_err-mark
+returns-in_err-mark c =
+    let e = turn_more (is_mark Mark.Comma) refl (λ found. found_and found <$> spec.after_comma spec.param) _ _ _ _ _ c.loop-turn.invariant c.loop-turn-test.true in
+    first_of (search rules, grind (arith, common_steps))
+
+pub returns-in_err-next : goal.returns-in_err-next
+returns-in_err-next c =
+    let e = turn_more (is_mark Mark.Comma) refl (λ found. found_and found <$> spec.after_comma spec.param) _ _ _ _ _ c.loop-turn.invariant c.loop-turn-test.true in
+    first_of (search rules, grind (arith, common_steps))
+
+pub loop-turn-preserved : goal.loop-turn-preserved
+loop-turn-preserved c =
+    let e = turn_more (is_mark Mark.Comma) refl (λ found. found_and found <$> spec.after_comma spec.param) _ _ _ _ _ c.loop-turn.invariant c.loop-turn-test.true in
+    first_of (search rules, grind (arith, common_steps))
+
+pub returns : goal.returns
+returns c =
+    let e = turn_none (is_mark Mark.Comma) refl (λ found. found_and found <$> spec.after_comma spec.param) _ _ _ _ _ c.loop-turn.invariant (omega arith) in
+    first_of (search rules, grind (arith, common_steps))
