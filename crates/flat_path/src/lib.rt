@@ -6,7 +6,8 @@ mod law;
 mod tree_law;
 
 pub use law::{
-    answered_goes_on, branch_begins, joined_goes_on, root_begins, wants_are_the_threads,
+    answered_goes_on, branch_begins, joined_goes_on, root_begins, stacks_are_answers,
+    wants_are_the_threads,
 };
 pub use tree_law::{
     fed_tree_goes_on, forked_tree_goes_on, main_has_its_value, runs_what_is_next, same_end,
