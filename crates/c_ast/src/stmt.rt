@@ -1,5 +1,8 @@
 //! Statements (C99 6.8, and `par`).
 
+ghost use Rattle.std.specs.Prelude.{◌≡◌};
+ghost use Rattle.c_ast.specs.LineOf.{line_of_simple};
+
 use crate::decl::Decl;
 use crate::expr::Expr;
 use crate::ident::Ident;
@@ -55,6 +58,22 @@ pub enum Simple {
         function: Ident,
         arguments: Items<Expr>,
     },
+}
+
+impl Simple {
+    /// The line of the first token.
+    pub fn line(&self) -> Line
+        ensures { result ≡ line_of_simple self.now }
+    {
+        match self {
+            Simple::Assign { line, .. }
+            | Simple::Increment { line, .. }
+            | Simple::Decrement { line, .. }
+            | Simple::PreIncrement { line, .. }
+            | Simple::PreDecrement { line, .. } => *line,
+            Simple::Call { function, .. } => function.line,
+        }
+    }
 }
 
 /// The first part of a `for`, with its semicolon.

@@ -1,5 +1,5 @@
 -- What expressions begin with.
-use Rattle.std.proofs.Common.{◌≡◌, ℕ, ℤ, Bool, true, false, Option, Some, None, List, [], ◌∷◌, refl, sym, ap, subst, ◌∙◌}
+use Rattle.std.proofs.Common.{◌≡◌, ℕ, Bool, true, false, Option, Some, None, List, refl, sym, ap, ◌∙◌}
 use Rattle.c_lex.specs.declared.token.Word.{Word}
 use Rattle.c_lex.specs.declared.token.Mark.{Mark}
 use Rattle.c_lex.specs.declared.token.Kind.{Kind}

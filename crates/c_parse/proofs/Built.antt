@@ -1,16 +1,19 @@
 -- A tree of the tokens of a source keeps what every tree keeps.
-use Rattle.std.proofs.Common.{◌≡◌, ℕ, suc, ℤ, pos, negsuc, ◌+◌, ◌<◌, ◌≤◌, ◌≤ℤ◌, List, [], ◌∷◌, ◌++◌, length, refl, sym, ap, subst, ◌∙◌, length-append, arith}
+use Rattle.std.proofs.Common.{◌≡◌, ℕ, ℤ, pos, negsuc, ◌≤◌, ◌≤ℤ◌, List, [], ◌∷◌, length, refl, subst, length-append, arith}
 use Rattle.std.specs.List.{All, AllByRecursion}
 use Rattle.std.proofs.lemmas.List.Elements.{All-nil, All-cons, All-append}
 use Rattle.c_lex.specs.declared.token.Kind.{Kind}
 use Rattle.c_lex.specs.declared.token.Token.{Token}
 use Rattle.c_lex.specs.IsLexed.{Lexed, IsLexed, IsNumbered, IsNotNegative}
 use Rattle.c_lex.proofs.Rules.{one_number}
+use Rattle.c_ast.specs.declared.decl.Declarator.{Declarator}
+use Rattle.c_ast.specs.declared.program.Field.{Field}
 use Rattle.c_ast.specs.declared.program.Item.{Item}
 use Rattle.c_ast.specs.Leaves.{leaves_of}
-use Rattle.c_ast.specs.Ast.{IsWritten, IsBuilt}
-use Rattle.parse_laws.specs.Nesting.{Anywhere}
-use Rattle.c_parse.specs.Symbol.{symbols_of}
+use Rattle.c_ast.specs.Ast.{IsWritten, HasFields, IsBuilt}
+use Rattle.parse_laws.specs.Nesting.{May, Anywhere}
+use Rattle.c_parse.specs.Symbol.{Symbol, Symbols, symbols_of}
+use Rattle.c_parse.specs.Programs.{DeclaratorsAt, FieldAt, FieldsAt, ItemAt, ProgramAt}
 use Rattle.c_parse.specs.Parsed.{IsProgram}
 use Rattle.c_parse.proofs.Leaves.{leaf_of, leaves, program_leaves}
 
@@ -43,6 +46,31 @@ few (t ∷ ts) =
     let g = few ts in
     omega arith
 
+-- fields stand in every struct
+
+some_declarator : {ts rest : Symbols} {ds : List Declarator} → DeclaratorsAt ts ds rest → 1 ≤ length ds
+some_declarator (DeclaratorsAt.last d) = omega arith
+some_declarator (DeclaratorsAt.more d ds) = omega arith
+
+some_item : {ts rest : Symbols} {f : Field} → FieldAt ts f rest → 1 ≤ length f.items
+some_item (FieldAt.field b ds) = some_declarator ds
+
+some_field : {ts rest : Symbols} {fs : List Field} → FieldsAt ts fs rest → (1 ≤ length fs) × All (λ (f : Field). 1 ≤ length f.items) fs
+some_field (FieldsAt.last {f} d) =
+    (omega arith, All-cons (λ (f : Field). 1 ≤ length f.items) f [] (some_item d) (All-nil (λ (f : Field). 1 ≤ length f.items)))
+some_field (FieldsAt.more {f} {others} d ds) =
+    (omega arith, All-cons (λ (f : Field). 1 ≤ length f.items) f others (some_item d) (some_field ds).1)
+
+has_fields : (may : May Symbol) {ts rest : Symbols} {i : Item} → ItemAt may ts i rest → HasFields i
+has_fields may (ItemAt.struct d) = some_field d
+has_fields may (ItemAt.decl d) = tt
+has_fields may (ItemAt.function d e f) = tt
+has_fields may (ItemAt.proto d e) = tt
+
+fields : (may : May Symbol) {ts : Symbols} {items : List Item} → ProgramAt may ts items → All HasFields items
+fields may ProgramAt.none = All-nil HasFields
+fields may (ProgramAt.more {i} {others} d ds) = All-cons HasFields i others (has_fields may d) (fields may ds)
+
 pub built : (l : Lexed) (items : List Item) → IsLexed l → IsProgram (symbols_of l.tokens) items → IsBuilt items l.names
 built l items h d =
     let e : leaves (symbols_of l.tokens) ≡ leaves_of items = program_leaves Anywhere d.derived in
@@ -50,4 +78,5 @@ built l items h d =
       names_differ = λ i j n f g. one_number l.names n i j h.differ f g;
       written = subst (All (IsWritten (length l.names))) e (written (length l.names) l.tokens h.numbered h.numbers);
       few = subst (λ w. length w ≤ 200000) e (let g = few l.tokens in let k = h.few in omega arith);
+      fields = fields Anywhere d.derived;
     }

@@ -1,36 +1,32 @@
 -- Declarations are read by their grammar.
-use Rattle.std.proofs.Common.{◌≡◌, ℕ, suc, pos, ◌+◌, ◌<◌, ◌≤◌, Bool, true, false, Option, Some, None, List, [], ◌∷◌, ◌++◌, length, refl, sym, ap, subst, ◌∙◌, arith}
+use Rattle.std.proofs.Common.{◌≡◌, ℕ, Bool, true, false, Some, None, List, [], ◌∷◌, refl, sym, ap, subst}
 use Rattle.dfi_base.specs.declared.numbers.Line.{Line}
-use Rattle.c_lex.specs.declared.token.Word.{Word}
 use Rattle.c_lex.specs.declared.token.Mark.{Mark}
-use Rattle.c_lex.specs.declared.token.Kind.{Kind}
 use Rattle.c_ast.specs.declared.decl.Base.{Base}
 use Rattle.c_ast.specs.declared.decl.Declarator.{Declarator}
 use Rattle.c_ast.specs.declared.decl.Decl.{Decl}
 use Rattle.c_ast.specs.declared.decl.DeclItem.{DeclItem}
 use Rattle.c_ast.specs.declared.expr.Expr.{Expr}
-use Rattle.parse_laws.specs.Parsing.{Parser, ◌>>=◌, ◌>>◌, pure, many}
 use Rattle.parse_laws.specs.Nesting.{May}
-use Rattle.parse_laws.proofs.Forms.{Form, Follow, Fits, Completes, Law}
+use Rattle.parse_laws.proofs.Forms.{Form, Fits}
 use Rattle.parse_laws.proofs.Bind.{Seq, Leads}
 use Rattle.parse_laws.proofs.Carry.{fits_fewer}
-use Rattle.parse_laws.proofs.Steps.{Any, fits_any, false_true}
-use Rattle.c_parse.specs.declared.subject.Subject.{Subject}
-use Rattle.c_parse.specs.Symbol.{Symbol, Symbols, word, mark, name, number}
+use Rattle.parse_laws.proofs.Steps.{Any}
+use Rattle.c_parse.specs.Symbol.{Symbol, Symbols, mark}
 use Rattle.c_parse.specs.Operators.{tiers}
-use Rattle.c_parse.specs.Tokens.{P, next, kind_of, choose, want, is_mark, mark_at}
-use Rattle.c_parse.specs.Types.{BaseAt, int, StarsAt, no_star, LengthsAt, no_length, DeclaratorAt, declarator}
+use Rattle.c_parse.specs.Tokens.{next, kind_of, is_mark}
+use Rattle.c_parse.specs.Types.{BaseAt, DeclaratorAt}
 use Rattle.c_parse.specs.Exprs.{ExprAt}
 use Rattle.c_parse.specs.Stmts.{DeclItemAt, plain, valued, DeclItemsAt, last, more, DeclAt, decl}
-use Rattle.c_parse.specs.TypeParser.{has, after_comma}
-use Rattle.c_parse.specs.ExprParser.{subject, unary_of, expr}
+use Rattle.c_parse.specs.TypeParser.{has}
+use Rattle.c_parse.specs.ExprParser.{subject, unary_of}
 use Rattle.c_parse.specs.StmtParser as spec
-use Rattle.c_parse.proofs.Parts.{Part, Gives, gives, given, gives_part, seq, narrow, widen, relead, restate, Branch, branch, refuses, Void, dispatch, dispatch_empty}
-use Rattle.c_parse.proofs.TokenParts.{MarkAt, marked, mark_any, mark_part, AnyToken, line_one, Only, only_mark}
+use Rattle.c_parse.proofs.Parts.{Part, Gives, gives, given, gives_part, seq, narrow, widen, relead, restate, Branch, branch, dispatch_empty}
+use Rattle.c_parse.proofs.TokenParts.{MarkAt, marked, mark_any, mark_part, AnyToken, Only, only_mark}
 use Rattle.c_parse.proofs.Lists.{others_part, Others, Tail, no_tail, tail}
 use Rattle.c_parse.proofs.TypeLaws.{Not, NoBracket, base_part, declarator_part}
-use Rattle.c_parse.proofs.LevelLaws.{AfterOperand, AfterLevel, zero_expr, zero_symbol, zero_tree, Unaries, unary_part, expr_part}
-use Rattle.c_parse.proofs.OperandLaws.{expr_then_comma, expr_then_semicolon}
+use Rattle.c_parse.proofs.LevelLaws.{AfterOperand, AfterLevel, Unaries, unary_part, expr_part}
+use Rattle.c_parse.proofs.OperandForms.{expr_then_comma, expr_then_semicolon}
 use Rattle.c_parse.proofs.SubjectLaws.{Entered, Then, subject_part, unaries_law}
 
 abbrev pub E : ℕ → Form Symbol Expr
@@ -57,7 +53,8 @@ AfterItem t = NoBracket t × Not (is_mark Mark.Assign) t × AfterLevel tiers t
 -- behind the declarator
 pub data ValuedAt (M : May Symbol) (c : ℕ) (d : Declarator) : Symbols → DeclItem → Symbols → Type 0 where
   without : {ts : Symbols} → ValuedAt M c d ts (record { declarator = d; value = None }) ts
-  with_value : {p : Line} {a : Expr} {ts r : Symbols} → ExprAt M c ts a r → ValuedAt M c d (mark Mark.Assign p ∷ ts) (record { declarator = d; value = Some a }) r
+  with_value : {p : Line} {a : Expr} {ts r : Symbols} → ExprAt M c ts a r
+      → ValuedAt M c d (mark Mark.Assign p ∷ ts) (record { declarator = d; value = Some a }) r
 
 abbrev pub Valued : ℕ → Declarator → Form Symbol DeclItem
 Valued c d M ts i r = ValuedAt M c d ts i r
@@ -70,15 +67,18 @@ value_to : (c : ℕ) (d : Declarator) (b : Bool) (M : May Symbol) (ts : Symbols)
 value_to c d true M ts i r (p, m, marked, (a, n, e, gives)) = with_value e
 value_to c d false M ts i r gives = without
 
-value_before : (c : ℕ) (d : Declarator) (M : May Symbol) (ts : Symbols) → Fits AfterItem ts → ValueBy c d (is_mark Mark.Assign (kind_of (next ts))) M ts (record { declarator = d; value = None }) ts
+value_before : (c : ℕ) (d : Declarator) (M : May Symbol) (ts : Symbols) → Fits AfterItem ts
+    → ValueBy c d (is_mark Mark.Assign (kind_of (next ts))) M ts (record { declarator = d; value = None }) ts
 value_before c d M [] h = gives
 value_before c d M (t ∷ ts) h = subst (λ z. ValueBy c d z M (t ∷ ts) (record { declarator = d; value = None }) (t ∷ ts)) (sym h.1) gives
 
-value_back : (c : ℕ) (d : Declarator) (M : May Symbol) (ts : Symbols) (i : DeclItem) (r : Symbols) → ValuedAt M c d ts i r → Fits AfterItem r → ValueBy c d (is_mark Mark.Assign (kind_of (next ts))) M ts i r
+value_back : (c : ℕ) (d : Declarator) (M : May Symbol) (ts : Symbols) (i : DeclItem) (r : Symbols) → ValuedAt M c d ts i r → Fits AfterItem r
+    → ValueBy c d (is_mark Mark.Assign (kind_of (next ts))) M ts i r
 value_back c d M ts i r without h = value_before c d M ts h
 value_back c d M ts i r (with_value e) h = (_, _, marked, (_, r, e, gives))
 
-value_only : (c : ℕ) (d : Declarator) (M : May Symbol) (i : DeclItem) (r : Symbols) → ValuedAt M c d [] i r → (◌≡◌ {A = DeclItem} (record { declarator = d; value = None }) i) × ([] ≡ r)
+value_only : (c : ℕ) (d : Declarator) (M : May Symbol) (i : DeclItem) (r : Symbols) → ValuedAt M c d [] i r
+    → (◌≡◌ {A = DeclItem} (record { declarator = d; value = None }) i) × ([] ≡ r)
 value_only c d M i r without = (refl, refl)
 
 value_leads : (c : ℕ) (d : Declarator) → Leads (Valued c d) (λ i. AfterItem) NoBracket
@@ -128,22 +128,27 @@ Decls c M ts d r = DeclAt M c ts d r
 abbrev pub DeclRest : ℕ → Base → DeclItem → Form Symbol Decl
 DeclRest c b i = Seq (Others (Items c) i) (λ items. Seq (MarkAt Mark.Semicolon) (λ q. Gives (record { base = b; items = items })))
 
-items_join : {M : May Symbol} {c : ℕ} {i : DeclItem} {others : List DeclItem} {ts m r : Symbols} → DeclItemAt M c ts i m → Tail (Items c) M m others r → DeclItemsAt M c ts (i ∷ others) r
+items_join : {M : May Symbol} {c : ℕ} {i : DeclItem} {others : List DeclItem} {ts m r : Symbols} → DeclItemAt M c ts i m → Tail (Items c) M m others r
+    → DeclItemsAt M c ts (i ∷ others) r
 items_join d no_tail = last d
 items_join d (tail e f) = more d (items_join e f)
 
-items_split : {M : May Symbol} {c : ℕ} {ts : Symbols} {all : List DeclItem} {r : Symbols} → DeclItemsAt M c ts all r → Seq (Items c) (Others (Items c)) M ts all r
+items_split : {M : May Symbol} {c : ℕ} {ts : Symbols} {all : List DeclItem} {r : Symbols} → DeclItemsAt M c ts all r
+    → Seq (Items c) (Others (Items c)) M ts all r
 items_split (last d) = (_, _, d, ([], no_tail, refl))
 items_split (more {i = i} d ds) = let (b, m, e, (others, f, g)) = items_split ds in (i, _, d, (b ∷ others, tail e f, ap (λ z. i ∷ z) g))
 
-pub decl_join : {M : May Symbol} {c : ℕ} {b : Base} {ts m n r : Symbols} {i : DeclItem} {d : Decl} → BaseAt ts b m → DeclItemAt M c m i n → DeclRest c b i M n d r → DeclAt M c ts d r
+pub decl_join : {M : May Symbol} {c : ℕ} {b : Base} {ts m n r : Symbols} {i : DeclItem} {d : Decl} → BaseAt ts b m → DeclItemAt M c m i n
+    → DeclRest c b i M n d r → DeclAt M c ts d r
 decl_join {M = M} {c = c} {b = b} {ts = ts} {m = m} {r = r} d e (items, o, (others, f, g), (q, u, marked, h)) =
     given h (DeclAt M c ts) (decl d (subst (λ z. DeclItemsAt M c m z (mark Mark.Semicolon q ∷ u)) (sym g) (items_join e f)))
 
-decl_to : (c : ℕ) (M : May Symbol) (ts : Symbols) (d : Decl) (r : Symbols) → Seq {B = Decl} (λ M us b m. BaseAt us b m) (λ b. Seq (Items c) (λ i. DeclRest c b i)) M ts d r → DeclAt M c ts d r
+decl_to : (c : ℕ) (M : May Symbol) (ts : Symbols) (d : Decl) (r : Symbols)
+    → Seq {B = Decl} (λ M us b m. BaseAt us b m) (λ b. Seq (Items c) (λ i. DeclRest c b i)) M ts d r → DeclAt M c ts d r
 decl_to c M ts d r (b, m, e, (i, n, f, g)) = decl_join e f g
 
-pub decl_back : (c : ℕ) (M : May Symbol) (ts : Symbols) (d : Decl) (r : Symbols) → DeclAt M c ts d r → Seq {B = Decl} (λ M us b m. BaseAt us b m) (λ b. Seq (Items c) (λ i. DeclRest c b i)) M ts d r
+pub decl_back : (c : ℕ) (M : May Symbol) (ts : Symbols) (d : Decl) (r : Symbols) → DeclAt M c ts d r
+    → Seq {B = Decl} (λ M us b m. BaseAt us b m) (λ b. Seq (Items c) (λ i. DeclRest c b i)) M ts d r
 decl_back c M ts d r (decl {l = l} {items = items} e f) =
     let (i, n, g, o) = items_split f in (_, _, e, (i, n, g, (items, _, o, (l, r, marked, gives))))
 

@@ -1,12 +1,11 @@
 -- The leaves of each form, from the leaves of its parts.
-use Rattle.std.proofs.Common.{◌≡◌, ℕ, ℤ, Option, Some, None, List, [], ◌∷◌, ◌++◌, refl, sym, ap, ◌∙◌}
+use Rattle.std.proofs.Common.{◌≡◌, ℤ, Option, Some, None, List, [], ◌∷◌, ◌++◌, refl, sym, ap, ◌∙◌}
 use Rattle.dfi_base.specs.declared.numbers.Line.{Line}
 use Rattle.c_ast.specs.declared.ident.Ident.{Ident}
 use Rattle.c_ast.specs.declared.decl.TypeName.{TypeName}
-use Rattle.c_ast.specs.declared.decl.Decl.{Decl}
 use Rattle.c_ast.specs.declared.expr.UnaryOp.{UnaryOp}
 use Rattle.c_ast.specs.declared.expr.BinaryOp.{BinaryOp}
-use Rattle.c_ast.specs.declared.expr.Expr.{Expr, fold-Expr, fold-roll-Expr}
+use Rattle.c_ast.specs.declared.expr.Expr.{Expr, fold-roll-Expr}
 use Rattle.c_ast.specs.declared.expr.Form.{Form, fold-Form, map-Form, roll-Form, fold-roll-Form}
 use Rattle.c_ast.specs.declared.expr.Form.TheVariants as f
 use Rattle.c_ast.specs.declared.expr.Form.TheOpen.{Form-F}
@@ -14,10 +13,10 @@ use Rattle.c_ast.specs.declared.stmt.Simple.{Simple}
 use Rattle.c_ast.specs.declared.stmt.ForStart.{ForStart}
 use Rattle.c_ast.specs.declared.stmt.Block.{Block}
 use Rattle.c_ast.specs.declared.stmt.BlockItem.{BlockItem}
-use Rattle.c_ast.specs.declared.stmt.Stmt.{Stmt, roll-Stmt, map-Stmt, fold-Stmt, fold-roll-Stmt}
+use Rattle.c_ast.specs.declared.stmt.Stmt.{Stmt, roll-Stmt, map-Stmt, fold-roll-Stmt}
 use Rattle.c_ast.specs.declared.stmt.Stmt.TheOpen.{Stmt-F}
 use Rattle.c_ast.specs.declared.stmt.Stmt.TheVariants as s
-use Rattle.c_ast.specs.Leaves.{Leaf, name, number, Leaves, of_ident, of_all, of_option, of_type, expr_step, of_expr, of_simple, of_decl, of_start, of_block_item, of_block_by, stmt_step, of_stmt, of_block}
+use Rattle.c_ast.specs.Leaves.{number, Leaves, of_ident, of_all, of_option, of_type, expr_step, of_expr, of_simple, of_decl, of_start, of_block_item, of_block_by, stmt_step, of_stmt, of_block}
 use Rattle.c_parse.specs.Nodes as e
 
 -- ---- expressions

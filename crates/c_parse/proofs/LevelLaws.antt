@@ -1,26 +1,25 @@
 -- Operators between operands are read by their grammar.
-use Rattle.std.proofs.Common.{◌≡◌, ℕ, zero, suc, ℤ, pos, ◌+◌, ◌<◌, ◌≤◌, ◌⊎◌, inl, inr, Bool, true, false, not, ◌&&◌, nat_lt, if◌then◌else◌, Option, Some, None, List, [], ◌∷◌, ◌++◌, length, refl, sym, ap, subst, ◌∙◌, arith}
+use Rattle.std.proofs.Common.{◌≡◌, ℕ, suc, pos, ◌≤◌, ◌⊎◌, inl, inr, Bool, true, false, not, ◌&&◌, nat_lt, if◌then◌else◌, Option, Some, None, List, [], ◌∷◌, length, refl, sym, ap, subst, ◌∙◌, arith}
 use Rattle.std.specs.Prelude.{is_some}
 use Rattle.dfi_base.specs.declared.numbers.Line.{Line}
-use Rattle.c_lex.specs.declared.token.Word.{Word}
 use Rattle.c_lex.specs.declared.token.Mark.{Mark}
 use Rattle.c_lex.specs.declared.token.Kind.{Kind}
 use Rattle.c_ast.specs.declared.expr.BinaryOp.{BinaryOp}
 use Rattle.c_ast.specs.declared.expr.Expr.{Expr}
 use Rattle.c_parse.specs.Nodes as tree
-use Rattle.parse_laws.specs.Parsing.{Parser, and_then, fault, deep, ◌>>=◌, ◌<$>◌, pure, accept, rising, repeat, joined, operand, operators, binary, skip}
-use Rattle.parse_laws.specs.Nesting.{May, Anywhere}
-use Rattle.parse_laws.proofs.Forms.{Form, Follow, Fits, Free, Completes, Law}
-use Rattle.parse_laws.proofs.Bind.{Seq, Leads}
+use Rattle.parse_laws.specs.Parsing.{and_then, fault, deep, ◌>>=◌, ◌<$>◌, pure, accept, rising, repeat, joined, operand, operators, skip}
+use Rattle.parse_laws.specs.Nesting.{May}
+use Rattle.parse_laws.proofs.Forms.{Form, Completes, Law}
+use Rattle.parse_laws.proofs.Bind.{Seq}
 use Rattle.parse_laws.proofs.Steps.{fits_any, none_some, some_is, false_true}
 use Rattle.parse_laws.proofs.Binary.{binary_law}
 use Rattle.c_parse.specs.declared.operators.Tier.{Tier}
 use Rattle.c_parse.specs.contracts.operators.Tier as tier_type
-use Rattle.c_parse.specs.Symbol.{Symbol, Symbols, word, mark, name, number}
+use Rattle.c_parse.specs.Symbol.{Symbol, Symbols, mark, number}
 use Rattle.c_parse.specs.Operators.{binary_op, tiers}
 use Rattle.c_parse.specs.Sorts.{is_suffix}
-use Rattle.c_parse.specs.Tokens.{P, next, kind_of, located, want, want_by, is_mark, goes}
-use Rattle.c_parse.specs.Exprs.{ExprAt, expr, LevelAt, single, level, OperatorsAt, no_operator, binary as binary_at', UnaryAt, unary, OperandAt, suffixed, PostfixAt, postfix, SuffixesAt, no_suffix, PrimaryAt, numeral}
+use Rattle.c_parse.specs.Tokens.{P, want, want_by, is_mark}
+use Rattle.c_parse.specs.Exprs.{ExprAt, expr, LevelAt, single, level, OperatorsAt, no_operator, binary as binary_at', UnaryAt, unary, OperandAt, suffixed, postfix, no_suffix, numeral}
 use Rattle.c_parse.specs.ExprParser as spec
 use Rattle.c_parse.proofs.Parts.{Part, Gives, gives, gives_part, seq, restate, accepts}
 use Rattle.c_parse.proofs.TokenParts.{AnyToken, line_one, located_part}
@@ -46,7 +45,8 @@ tier_is : (tier : Tier) (o : Option (Tier × BinaryOp)) (op : BinaryOp) → spec
 tier_is tier None op e = none_some e
 tier_is tier (Some (found, other)) op e = by_test (spec.same_tier found tier) refl e
   where
-    by_test : (b : Bool) → spec.same_tier found tier ≡ b → (if b then Some other else None) ≡ Some op → ◌≡◌ {A = Option (Tier × BinaryOp)} (Some (found, other)) (Some (tier, op))
+    by_test : (b : Bool) → spec.same_tier found tier ≡ b → (if b then Some other else None) ≡ Some op
+        → ◌≡◌ {A = Option (Tier × BinaryOp)} (Some (found, other)) (Some (tier, op))
     by_test true same f = ap (λ z. Some (z, other)) (same_true tier_type.the_type tt found tier same) ∙ ap (λ z. Some (tier, z)) (some_is f)
     by_test false same f = none_some f
 
@@ -87,7 +87,8 @@ operator_after Mark.Dot l e = false_true e
 operator_after Mark.Arrow l e = false_true e
 operator_after _ l e = (refl, refl)
 
-operator_other : (m : Mark) (l : Line) (tier : Tier) (op : BinaryOp) → binary_op m ≡ Some (tier, op) → (lower : List Tier) → fresh tier lower ≡ true → AfterLevel lower (mark m l)
+operator_other : (m : Mark) (l : Line) (tier : Tier) (op : BinaryOp) → binary_op m ≡ Some (tier, op) → (lower : List Tier) → fresh tier lower ≡ true
+    → AfterLevel lower (mark m l)
 operator_other m l tier op e [] h = operator_after m l (ap is_some e)
 operator_other m l tier op e (other ∷ rest) h =
     let (here, there) = both (not (spec.same_tier tier other)) (fresh tier rest) h in
@@ -101,7 +102,8 @@ zero_operand = suffixed (postfix numeral no_suffix)
 pub zero_unary : {M : May Symbol} {c : ℕ} {l : Line} {r : Symbols} → M c (number (pos 0) l ∷ r) → UnaryAt M c (number (pos 0) l ∷ r) (tree.Number l (pos 0)) r
 zero_unary may = unary may zero_operand
 
-pub zero_level : (tiers : List Tier) {M : May Symbol} {c : ℕ} {l : Line} {r : Symbols} → M c (number (pos 0) l ∷ r) → LevelAt M tiers c (number (pos 0) l ∷ r) (tree.Number l (pos 0)) r c
+pub zero_level : (tiers : List Tier) {M : May Symbol} {c : ℕ} {l : Line} {r : Symbols} → M c (number (pos 0) l ∷ r)
+    → LevelAt M tiers c (number (pos 0) l ∷ r) (tree.Number l (pos 0)) r c
 zero_level [] may = single (zero_unary may)
 zero_level (tier ∷ lower) may = level (zero_level lower may) no_operator
 
@@ -121,7 +123,8 @@ mutual
   level_rises (single u) = omega arith
   level_rises (level {c = c} {d = d} {d' = d'} v o) = let f : c ≤ d = level_rises v in let g : d ≤ d' = operators_rise o in omega arith
 
-  operators_rise : {M : May Symbol} {tier : Tier} {lower : List Tier} {l : Line} {c : ℕ} {a : Expr} {ts : Symbols} {b : Expr} {r : Symbols} {d : ℕ} → OperatorsAt M tier lower l c a ts b r d → c ≤ d
+  operators_rise : {M : May Symbol} {tier : Tier} {lower : List Tier} {l : Line} {c : ℕ} {a : Expr} {ts : Symbols} {b : Expr} {r : Symbols} {d : ℕ}
+      → OperatorsAt M tier lower l c a ts b r d → c ≤ d
   operators_rise no_operator = omega arith
   operators_rise (binary_at' {c = c} {d = d} {d' = d'} e may v o) = let f : suc c ≤ d = level_rises v in let g : d ≤ d' = operators_rise o in omega arith
 
@@ -140,7 +143,8 @@ join_by l (Some op) = Some (λ a b. tree.Binary l a op b)
 abbrev join : Tier → Line → Symbol → Option (Expr → Expr → Expr)
 join tier l t = join_by l (spec.binary_at tier t)
 
-chain_go_by : (tier : Tier) (lower : List Tier) (l p : Line) (k : Kind) (o : Option BinaryOp) → spec.binary_in tier (Some k) ≡ o → (M : May Symbol) (v w z : Expr × ℕ) (f : Expr → Expr → Expr) (us m r : Symbols)
+chain_go_by : (tier : Tier) (lower : List Tier) (l p : Line) (k : Kind) (o : Option BinaryOp) → spec.binary_in tier (Some k) ≡ o
+    → (M : May Symbol) (v w z : Expr × ℕ) (f : Expr → Expr → Expr) (us m r : Symbols)
     → join_by l o ≡ Some f → M v.1 (record { kind = k; line = p } ∷ us) → Levels lower (suc v.1) M us w m → Chain tier lower l (f v.0 w.0, w.1) M m z r
     → Chain tier lower l v M (record { kind = k; line = p } ∷ us) z r
 chain_go_by tier lower l p k None h M v w z f us m r e may d ds = none_some e
@@ -152,7 +156,8 @@ chain_go_by tier lower l p k (Some op) h M v w z f us m r e may d ds =
     (subst (λ x. OperatorsAt M tier lower l w.1 x m z.0 r z.1) (sym same) ds))
 
 chain_go : (tier : Tier) (lower : List Tier) (l : Line) (M : May Symbol) (v w z : Expr × ℕ) (f : Expr → Expr → Expr) (t : Symbol) (us m r : Symbols)
-    → join tier l t ≡ Some f → M v.1 (t ∷ us) → Levels lower (suc v.1) M us w m → Chain tier lower l (f v.0 w.0, w.1) M m z r → Chain tier lower l v M (t ∷ us) z r
+    → join tier l t ≡ Some f → M v.1 (t ∷ us) → Levels lower (suc v.1) M us w m → Chain tier lower l (f v.0 w.0, w.1) M m z r
+    → Chain tier lower l v M (t ∷ us) z r
 chain_go tier lower l M v w z f t us m r e may d ds = chain_go_by tier lower l t.line t.kind (spec.binary_in tier (Some t.kind)) refl M v w z f us m r e may d ds
 
 abbrev Split : Tier → List Tier → Line → May Symbol → (Expr × ℕ) → (Expr × ℕ) → Symbols → Symbols → Type 0
@@ -160,10 +165,12 @@ Split tier lower l M v z ts r =
     ((v ≡ z) × (ts ≡ r)) ⊎ ((t : Symbol) × (us : Symbols) × (f : Expr → Expr → Expr) × (w : Expr × ℕ) × (m : Symbols)
     × (ts ≡ t ∷ us) × (join tier l t ≡ Some f) × M v.1 (t ∷ us) × Levels lower (suc v.1) M us w m × Chain tier lower l (f v.0 w.0, w.1) M m z r)
 
-chain_split : (tier : Tier) (lower : List Tier) (l : Line) (M : May Symbol) (v z : Expr × ℕ) (ts r : Symbols) → Chain tier lower l v M ts z r → Split tier lower l M v z ts r
+chain_split : (tier : Tier) (lower : List Tier) (l : Line) (M : May Symbol) (v z : Expr × ℕ) (ts r : Symbols) → Chain tier lower l v M ts z r
+    → Split tier lower l M v z ts r
 chain_split tier lower l M v z ts r d = split_by v.1 v.0 ts z.0 r z.1 d
   where
-    split_by : (c : ℕ) (a : Expr) (us : Symbols) (b : Expr) (rest : Symbols) (d : ℕ) → OperatorsAt M tier lower l c a us b rest d → Split tier lower l M (a, c) (b, d) us rest
+    split_by : (c : ℕ) (a : Expr) (us : Symbols) (b : Expr) (rest : Symbols) (d : ℕ) → OperatorsAt M tier lower l c a us b rest d
+        → Split tier lower l M (a, c) (b, d) us rest
     split_by c a us b rest d no_operator = inl (refl, refl)
     split_by c a us b rest d (binary_at' {p = p} {d = d1} {k = k} {op = op} {ts = vs} {m = m} {b = x} e may v o) =
         inr (mark k p, vs, (λ y z. tree.Binary l y op z), (x, d1), m, refl, ap (join_by l) (binary_has tier k op e), may, v, o)
@@ -175,12 +182,14 @@ some_op : (l : Line) (o : Option BinaryOp) (f : Expr → Expr → Expr) → join
 some_op l None f e = none_some e
 some_op l (Some op) f e = (op, refl)
 
-operator_follows_by : (tier : Tier) (lower : List Tier) (k : Kind) (p : Line) (op : BinaryOp) → fresh tier lower ≡ true → spec.binary_in tier (Some k) ≡ Some op → AfterLevel lower (record { kind = k; line = p })
+operator_follows_by : (tier : Tier) (lower : List Tier) (k : Kind) (p : Line) (op : BinaryOp) → fresh tier lower ≡ true
+    → spec.binary_in tier (Some k) ≡ Some op → AfterLevel lower (record { kind = k; line = p })
 operator_follows_by tier lower k p op h e =
     let (m, is, has) = binary_is tier k op e in
     subst (λ x. AfterLevel lower (record { kind = x; line = p })) (sym is) (operator_other m p tier op has lower h)
 
-operator_follows : (tier : Tier) (lower : List Tier) (l : Line) → fresh tier lower ≡ true → (t : Symbol) (f : Expr → Expr → Expr) → join tier l t ≡ Some f → AfterLevel lower t
+operator_follows : (tier : Tier) (lower : List Tier) (l : Line) → fresh tier lower ≡ true → (t : Symbol) (f : Expr → Expr → Expr)
+    → join tier l t ≡ Some f → AfterLevel lower t
 operator_follows tier lower l h t f e =
     let (op, s) = some_op l (spec.binary_at tier t) f e in
     operator_follows_by tier lower t.kind t.line op h s
@@ -221,7 +230,8 @@ Unaries c M ts a r = UnaryAt M c ts a r
 abbrev Located : Tier → List Tier → ℕ → Line → Form Symbol (Expr × ℕ)
 Located tier lower c l = Seq (Levels lower c) (Chain tier lower l)
 
-level_to : (tier : Tier) (lower : List Tier) (c : ℕ) (M : May Symbol) (t : Symbol) (us : Symbols) (v : Expr × ℕ) (r : Symbols) → Located tier lower c t.line M (t ∷ us) v r → Levels (tier ∷ lower) c M (t ∷ us) v r
+level_to : (tier : Tier) (lower : List Tier) (c : ℕ) (M : May Symbol) (t : Symbol) (us : Symbols) (v : Expr × ℕ) (r : Symbols)
+    → Located tier lower c t.line M (t ∷ us) v r → Levels (tier ∷ lower) c M (t ∷ us) v r
 level_to tier lower c M t us v r (w, m, d, ds) = level d ds
 
 level_back : (tier : Tier) (lower : List Tier) (c : ℕ) (M : May Symbol) (ts : Symbols) (v : Expr × ℕ) (r : Symbols) → Levels (tier ∷ lower) c M ts v r
@@ -238,7 +248,8 @@ single_to c M ts v r (a, m, d, gives) = single d
 single_back : (c : ℕ) (M : May Symbol) (ts : Symbols) (v : Expr × ℕ) (r : Symbols) → Levels [] c M ts v r → Seq (Unaries c) (λ a. Gives (a, c)) M ts v r
 single_back c M ts v r d = back_by ts v.0 r v.1 d
   where
-    back_by : (us : Symbols) (a : Expr) (rest : Symbols) (d : ℕ) → LevelAt M [] c us a rest d → Seq {B = Expr × ℕ} (Unaries c) (λ b. Gives (b, c)) M us (a, d) rest
+    back_by : (us : Symbols) (a : Expr) (rest : Symbols) (d : ℕ) → LevelAt M [] c us a rest d
+        → Seq {B = Expr × ℕ} (Unaries c) (λ b. Gives (b, c)) M us (a, d) rest
     back_by us a rest d (single u) = (_, _, u, gives)
 
 -- each tier differs from those below it
@@ -255,7 +266,8 @@ module _ (limit : ℕ) where
       whole = record { tokens = zero_symbol ∷ []; value = zero_tree; holds = λ M l r free h. zero_unary (free c _ (omega arith)) };
     }
 
-    pub level_part : (tiers : List Tier) → ordered tiers ≡ true → (c : ℕ) → Good c → Part limit (spec.level limit inner tiers c) (Levels tiers c) (λ v. AfterLevel tiers) AnyToken
+    pub level_part : (tiers : List Tier) → ordered tiers ≡ true → (c : ℕ) → Good c
+        → Part limit (spec.level limit inner tiers c) (Levels tiers c) (λ v. AfterLevel tiers) AnyToken
     unfolding spec.level spec.chain
     level_part [] order c good =
         restate limit (Levels [] c) (λ v. AfterOperand) AnyToken (seq limit (unary_part c good) (λ a. gives_part limit (a, c)))

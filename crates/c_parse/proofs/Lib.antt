@@ -6,14 +6,17 @@ pub mod Lists
 pub mod TypeLaws
 pub mod LevelLaws
 pub mod Begins
+pub mod OperandForms
 pub mod OperandLaws
 pub mod SubjectLaws
 pub mod DeclLaws
 pub mod SimpleLaws
 pub mod OpenIf
 pub mod StmtParts
+pub mod StmtForms
 pub mod StmtLaws
 pub mod StmtKnot
+pub mod ProgramForms
 pub mod ProgramLaws
 pub mod Knots
 pub mod Rows

@@ -1,14 +1,13 @@
 -- Lists of equal parts, and lists with commas between.
-use Rattle.std.proofs.Common.{◌≡◌, ℕ, suc, ◌<◌, ◌⊎◌, inl, inr, Bool, true, false, Option, Some, None, List, [], ◌∷◌, ◌++◌, length, refl, sym, ap, subst, ◌∙◌, arith}
+use Rattle.std.proofs.Common.{◌≡◌, ℕ, ◌⊎◌, inl, inr, Bool, true, false, List, [], ◌∷◌, refl}
 use Rattle.dfi_base.specs.declared.numbers.Line.{Line}
 use Rattle.c_lex.specs.declared.token.Mark.{Mark}
-use Rattle.c_lex.specs.declared.token.Kind.{Kind}
-use Rattle.parse_laws.specs.Parsing.{Parser, ◌>>=◌, ◌>>◌, many}
+use Rattle.parse_laws.specs.Parsing.{◌>>=◌, many}
 use Rattle.parse_laws.specs.Nesting.{May}
-use Rattle.parse_laws.proofs.Forms.{Form, Follow, Fits, Completes, Law}
-use Rattle.parse_laws.proofs.Bind.{Seq, Leads}
+use Rattle.parse_laws.proofs.Forms.{Form, Follow, Law}
+use Rattle.parse_laws.proofs.Bind.{Seq}
 use Rattle.parse_laws.proofs.Carry.{fits_fewer}
-use Rattle.parse_laws.proofs.Steps.{Any, fits_any}
+use Rattle.parse_laws.proofs.Steps.{fits_any}
 use Rattle.parse_laws.proofs.Repeat.{many_law, many_leads, many_completes, found_law, Takes, takes_first}
 use Rattle.c_parse.specs.Symbol.{Symbol, Symbols, mark}
 use Rattle.c_parse.specs.Tokens.{P, want, mark_at}
@@ -66,7 +65,8 @@ module _ (limit : ℕ) {A : Type 0} (item : P A) (Item : Form Symbol A) (G F R :
   tail_split M ts r all no_tail = inl (refl, refl)
   tail_split M ts r all (tail d ds) = inr (_, _, _, refl, (_, _, marked, d), ds)
 
-  tail_starts : (M : May Symbol) (ts m : Symbols) (a : A) → Next M ts a m → (t : Symbol) × (us : Symbols) × (ts ≡ t ∷ us) × (has Mark.Comma t ≡ true) × ((b : A) → G t)
+  tail_starts : (M : May Symbol) (ts m : Symbols) (a : A) → Next M ts a m
+      → (t : Symbol) × (us : Symbols) × (ts ≡ t ∷ us) × (has Mark.Comma t ≡ true) × ((b : A) → G t)
   tail_starts M ts m a (l, n, marked, d) = (_, _, refl, same_mark_self Mark.Comma, λ b. comma l)
 
   tail_takes : Takes (after_comma item)

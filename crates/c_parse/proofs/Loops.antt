@@ -1,7 +1,7 @@
 -- A loop of the code takes the turns of its definition one by one.
-use Rattle.std.proofs.Common.{◌≡◌, ℕ, zero, suc, ◌+◌, ◌-◌, ◌<◌, ◌≤◌, Bool, true, false, if◌then◌else◌, Option, Some, None, List, [], ◌∷◌, length, refl, sym, ap, ◌∙◌, arith}
+use Rattle.std.proofs.Common.{◌≡◌, ℕ, suc, ◌+◌, ◌-◌, ◌<◌, Bool, false, if◌then◌else◌, Option, None, [], ◌∷◌, length, refl, sym, ap, ◌∙◌, arith}
 use Rattle.c_lex.specs.declared.token.Kind.{Kind}
-use Rattle.parse_laws.specs.Parsing.{Fault, unexpected, Answer, done, fault, ◌>>=◌, and_then, pure, at_next, turns, repeat, peek}
+use Rattle.parse_laws.specs.Parsing.{unexpected, Answer, fault, ◌>>=◌, pure, turns, repeat, peek}
 use Rattle.c_parse.specs.Symbol.{Symbol, Symbols}
 use Rattle.c_parse.specs.Tokens.{P, next, kind_of, goes}
 

@@ -1,5 +1,5 @@
 -- However deep it is, a list of tokens has one tree, and one answer.
-use Rattle.std.proofs.Common.{◌≡◌, ℕ, suc, ◌+◌, ◌<◌, Option, List, [], ◌++◌, arith}
+use Rattle.std.proofs.Common.{◌≡◌, ℕ, suc, ◌+◌, Option, List, ◌++◌, arith}
 use Rattle.dfi_base.specs.declared.numbers.Line.{Line}
 use Rattle.c_ast.specs.declared.ident.Ident.{Ident}
 use Rattle.c_ast.specs.declared.decl.Decl.{Decl}
@@ -17,13 +17,14 @@ use Rattle.parse_laws.specs.Tells.{HasOneAnswer}
 use Rattle.parse_laws.proofs.Verdicts.{continues_prefix}
 use Rattle.parse_laws.proofs.One.{Bounded, one_tree, one_answer}
 use Rattle.c_parse.specs.declared.operators.Tier.{Tier}
-use Rattle.c_parse.specs.Symbol.{Symbol, Symbols}
+use Rattle.c_parse.specs.Symbol.{Symbols}
 use Rattle.c_parse.specs.Exprs as x
 use Rattle.c_parse.specs.Stmts as st
 use Rattle.c_parse.specs.Programs as p
 use Rattle.c_parse.specs.Programs.{ProgramAt}
 use Rattle.c_parse.specs.ProgramParser as spec
 use Rattle.c_parse.proofs.ProgramLaws.{program_law, program_tells}
+use Rattle.c_parse.specs.NestingLimit.{nesting_limit}
 
 mutual
   expr : {c : ℕ} {ts r : Symbols} {a : Expr} → x.ExprAt Anywhere c ts a r → Bounded (λ M. x.ExprAt M c ts a r)
@@ -164,8 +165,8 @@ program (p.ProgramAt.more d ds) = let (m, f) = item d in let (n, g) = program ds
 pub programs_one_tree : (ts : Symbols) (a b : List Item) → ProgramAt Anywhere ts a → ProgramAt Anywhere ts b → a ≡ b
 programs_one_tree ts a b = one_tree ProgramAt spec.program program_law (λ ts a d. program d) ts a b
 
-pub programs_one_answer : (ts : Symbols) → HasOneAnswer ProgramAt 200 ts
-programs_one_answer ts = (spec.program 200 ts, program_tells ts, λ other h. one_answer ProgramAt 200 ts (spec.program 200 ts) other (program_tells ts) h)
+pub programs_one_answer : (ts : Symbols) → HasOneAnswer ProgramAt nesting_limit ts
+programs_one_answer ts = (spec.program nesting_limit ts, program_tells ts, λ other h. one_answer ProgramAt nesting_limit ts (spec.program nesting_limit ts) other (program_tells ts) h)
 
 pub programs_prefix : (ts us : Symbols) → Continues ProgramAt (ts ++ us) → Continues ProgramAt ts
 programs_prefix = continues_prefix ProgramAt

@@ -1,5 +1,5 @@
 -- Statements that end in an `if` without `else`.
-use Rattle.std.proofs.Common.{◌≡◌, ℕ, Bool, true, false, Option, Some, None, List, [], ◌∷◌, refl, sym, ap, subst, ◌∙◌}
+use Rattle.std.proofs.Common.{◌≡◌, ℕ, Bool, true, false, Option, Some, None, List, [], ◌∷◌, sym, ap, subst, ◌∙◌}
 use Rattle.dfi_base.specs.declared.numbers.Line.{Line}
 use Rattle.c_lex.specs.declared.token.Word.{Word}
 use Rattle.c_lex.specs.declared.token.Kind.{Kind}
@@ -14,7 +14,7 @@ use Rattle.c_ast.specs.declared.stmt.Stmt.TheVariants as s
 use Rattle.parse_laws.specs.Nesting.{May}
 use Rattle.parse_laws.proofs.Steps.{false_true}
 use Rattle.c_parse.specs.Symbol.{Symbol, Symbols}
-use Rattle.c_parse.specs.Tokens.{next, kind_of, is_word}
+use Rattle.c_parse.specs.Tokens.{is_word}
 use Rattle.c_parse.specs.Stmts.{NoElse, IsNotElse, StmtAt, stmt, StatementAt, braced, empty, simple, return, break, continue, if_alone, if_else, while, for, par}
 use Rattle.c_parse.proofs.Begins.{Begins}
 use denote.Enum.Bare.{same_true}
@@ -79,10 +79,12 @@ not_before_else [] h e = false_true e
 not_before_else (t ∷ r) h e = else_kind t.kind e h
 
 mutual
-  pub closed_before_else : {M : May Symbol} {c : ℕ} {ts : Symbols} {a : Stmt} {r : Symbols} → StmtAt M c ts a r → Begins (is_word Word.Else) r → ends_open a ≡ false
+  pub closed_before_else : {M : May Symbol} {c : ℕ} {ts : Symbols} {a : Stmt} {r : Symbols} → StmtAt M c ts a r → Begins (is_word Word.Else) r
+      → ends_open a ≡ false
   closed_before_else (stmt may d) e = closed_statement d e
 
-  closed_statement : {M : May Symbol} {c : ℕ} {ts : Symbols} {a : Stmt} {r : Symbols} → StatementAt M c ts a r → Begins (is_word Word.Else) r → ends_open a ≡ false
+  closed_statement : {M : May Symbol} {c : ℕ} {ts : Symbols} {a : Stmt} {r : Symbols} → StatementAt M c ts a r → Begins (is_word Word.Else) r
+      → ends_open a ≡ false
   closed_statement (braced {b = b} d) e = open_block b
   closed_statement (empty {l = l}) e = open_empty l
   closed_statement (simple {a = a} d) e = open_simple a

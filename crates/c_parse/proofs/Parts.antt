@@ -1,5 +1,5 @@
 -- A form with its parser, as one part of a larger form.
-use Rattle.std.proofs.Common.{◌≡◌, ℕ, Option, Some, None, List, [], ◌∷◌, ◌++◌, refl, sym, ap, subst, ◌∙◌, append_assoc}
+use Rattle.std.proofs.Common.{◌≡◌, ℕ, Option, Some, None, List, [], ◌∷◌, ◌++◌, refl, sym, subst, ◌∙◌, append_assoc}
 use Rattle.parse_laws.specs.Parsing.{unexpected, done, fault, Parser, ◌>>=◌, pure, refuse, accept, accept_by, skip}
 use Rattle.parse_laws.specs.Nesting.{May, Anywhere}
 use Rattle.parse_laws.proofs.Forms.{Form, Follow, Fits, Free, Completes, Judge, Law}
@@ -38,7 +38,8 @@ module _ {T : Type 0} where
   reads_token : {A : Type 0} {value : T → Option A} {M : May T} {ts r : List T} {a : A} → Reads value M ts a r → Token value M ts a r
   reads_token (reads v) = (_, refl, v)
 
-  reads_leads : {A : Type 0} {value : T → Option A} (S : T → Type 0) → ((t : T) (a : A) → value t ≡ Some a → S t) → {M : May T} {ts r : List T} {a : A} → Reads value M ts a r → Fits S ts
+  reads_leads : {A : Type 0} {value : T → Option A} (S : T → Type 0) → ((t : T) (a : A) → value t ≡ Some a → S t)
+      → {M : May T} {ts r : List T} {a : A} → Reads value M ts a r → Fits S ts
   reads_leads S h (reads v) = h _ _ v
 
   wanted : {A : Type 0} (t : T) (ts : List T) (o : Option A) → accept_by ts o ≡ want_by o (t ∷ ts)
@@ -89,7 +90,8 @@ module _ {T : Type 0} (limit : ℕ) where
 
     -- where what comes behind is known for some values alone, and the first form gives no others
     pub seq_good : (Good : A → Type 0) → ((ts : List T) (a : A) (r : List T) → D Anywhere ts a r → Good a) → Part p D G R
-        → ((a : A) → Leads (E a) F (G a)) → ((a : A) → Completes limit (E a) F [] []) → ((a : A) → Good a → Law limit (f a) (E a) F) → Part (p >>= f) (Seq D E) F R
+        → ((a : A) → Leads (E a) F (G a)) → ((a : A) → Completes limit (E a) F [] []) → ((a : A) → Good a → Law limit (f a) (E a) F)
+        → Part (p >>= f) (Seq D E) F R
     seq_good Good good x leads whole g = record {
       law = bind_good limit p D G f E F leads whole Good good x.law g;
       leads = λ M ts b r (a, m, d, e) h. x.leads M ts a m d (leads a M m b r e h);
@@ -131,7 +133,8 @@ module _ {T : Type 0} (limit : ℕ) where
     whole = record { tokens = []; value = a; holds = λ M l r free h. gives };
   }
 
-  pub reads_part : {A : Type 0} (value : T → Option A) (S : T → Type 0) → ((t : T) (a : A) → value t ≡ Some a → S t) → (t : T) (a : A) → value t ≡ Some a → Part (want value) (Reads value) Any S
+  pub reads_part : {A : Type 0} (value : T → Option A) (S : T → Type 0) → ((t : T) (a : A) → value t ≡ Some a → S t) → (t : T) (a : A)
+      → value t ≡ Some a → Part (want value) (Reads value) Any S
   reads_part value S begins t a e = record {
     law = convert limit (want value) (Token value) Any (Reads value) Any (token_reads value) (λ M ts b r d h. reads_token d) (λ b t h. h)
         (subst (λ p. Law limit p (Token value) Any) (λ i ts. accepts value ts i) (accept_law limit value Any t a e));
@@ -172,7 +175,8 @@ module _ {T : Type 0} (limit : ℕ) where
     chosen_leads M ts a r d h = (branches (sort (next ts))).leads M ts a r (back M ts a r d h) h
 
     -- the form is not empty
-    pub dispatch : Completes limit D F [] [] → fault unexpected 0 ≡ by (sort None) [] → ((M : May T) (a : A) (r : List T) → D M [] a r → Fits (F a) r → ⊥) → Part chosen D F S
+    pub dispatch : Completes limit D F [] [] → fault unexpected 0 ≡ by (sort None) []
+        → ((M : May T) (a : A) (r : List T) → D M [] a r → Fits (F a) r → ⊥) → Part chosen D F S
     dispatch complete stuck none = record {
       law = heads limit chosen D F by_head (wants limit chosen D F stuck complete none);
       leads = chosen_leads;

@@ -1,7 +1,6 @@
 -- Simple statements are read by their grammar.
-use Rattle.std.proofs.Common.{◌≡◌, ℕ, suc, pos, ◌+◌, ◌<◌, ◌≤◌, Bool, true, false, Option, Some, None, List, [], ◌∷◌, ◌++◌, length, refl, sym, ap, subst, ◌∙◌, arith}
+use Rattle.std.proofs.Common.{◌≡◌, ℕ, suc, true, Option, Some, None, List, [], ◌∷◌, refl, sym, ap, subst, ◌∙◌, arith}
 use Rattle.dfi_base.specs.declared.numbers.Line.{Line}
-use Rattle.c_lex.specs.declared.token.Word.{Word}
 use Rattle.c_lex.specs.declared.token.Mark.{Mark}
 use Rattle.c_lex.specs.declared.token.Kind.{Kind}
 use Rattle.c_ast.specs.declared.ident.Ident.{Ident}
@@ -9,29 +8,29 @@ use Rattle.c_ast.specs.declared.expr.Expr.{Expr}
 use Rattle.c_parse.specs.Nodes as tree
 use Rattle.c_ast.specs.declared.stmt.AssignOp.{AssignOp}
 use Rattle.c_ast.specs.declared.stmt.Simple.{Simple}
-use Rattle.parse_laws.specs.Parsing.{unexpected, fault, and_then, Parser, ◌>>=◌, ◌>>◌, pure, refuse}
+use Rattle.parse_laws.specs.Parsing.{unexpected, and_then}
 use Rattle.parse_laws.specs.Nesting.{May}
-use Rattle.parse_laws.proofs.Forms.{Form, Follow, Fits, Completes, Law}
+use Rattle.parse_laws.proofs.Forms.{Form, Fits, Completes}
 use Rattle.parse_laws.proofs.Bind.{Seq, Leads}
 use Rattle.parse_laws.proofs.Carry.{fits_fewer}
-use Rattle.parse_laws.proofs.Steps.{Any, fits_any, false_true, none_some}
+use Rattle.parse_laws.proofs.Steps.{Any, false_true, none_some}
 use Rattle.c_parse.specs.declared.subject.Subject.{Subject}
 use Rattle.c_parse.specs.declared.operators.Tier.{Tier}
 use Rattle.c_parse.specs.declared.sorts.SubjectEnd.{SubjectEnd}
-use Rattle.c_parse.specs.Symbol.{Symbol, Symbols, word, mark, name, number}
+use Rattle.c_parse.specs.Symbol.{Symbol, Symbols, mark}
 use Rattle.c_parse.specs.Operators.{tiers, assign_op}
-use Rattle.c_parse.specs.Sorts.{is_operand, subject_end, assign_end}
-use Rattle.c_parse.specs.Tokens.{P, next, kind_of, choose, want, is_mark, mark_at}
+use Rattle.c_parse.specs.Sorts.{is_operand, subject_end}
+use Rattle.c_parse.specs.Tokens.{next, kind_of, want, mark_at}
 use Rattle.c_parse.specs.Exprs.{ExprAt, UnaryAt, unary, PostfixAt, CallAt, no_argument, call}
 use Rattle.c_parse.specs.Stmts.{SimpleAt, assign, increment, decrement, pre_increment, pre_decrement, call as call_alone}
 use Rattle.c_parse.specs.ExprParser.{expr_of}
 use Rattle.c_parse.specs.StmtParser as spec
 use Rattle.c_parse.proofs.Parts.{Part, Gives, gives, given, gives_part, seq, takes_seq, takes_want, narrow, widen, relead, restate, Reads, reads, reads_part, Branch, branch, refuses, Void, dispatch, dispatch_empty}
-use Rattle.c_parse.proofs.TokenParts.{MarkAt, marked, mark_any, mark_part, AnyToken, line_one, located_part}
+use Rattle.c_parse.proofs.TokenParts.{MarkAt, marked, mark_any, AnyToken, line_one, located_part}
 use Rattle.c_parse.proofs.LevelLaws.{AfterOperand, AfterLevel, zero_expr, zero_unary, zero_symbol, zero_tree, Unaries}
-use Rattle.c_parse.proofs.Begins.{Begins, unary_begins}
+use Rattle.c_parse.proofs.Begins.{Begins}
 use Rattle.parse_laws.proofs.Repeat.{Takes}
-use Rattle.c_parse.proofs.OperandLaws.{takes_located, takes_choose, takes_refuse, InCall, empty, some, SubjectAt, of_call, of_called, of_number, Subjects}
+use Rattle.c_parse.proofs.OperandForms.{takes_located, takes_choose, takes_refuse, empty, some, SubjectAt, of_call, Subjects}
 use Rattle.c_parse.proofs.SubjectLaws.{Entered, Then, takes_subject, IsPostfix, postfix_subject, subject_postfix, operand_of, operand_subject, subject_begins, subject_none}
 use Rattle.c_parse.proofs.DeclLaws.{E, expr_at_part, unary_at_part, operand_at_part}
 
@@ -41,18 +40,22 @@ pub entered_unary : {M : May Symbol} {c : ℕ} {ts : Symbols} {v : Subject} {r :
 entered_unary {M = M} {c = c} {v = v} {r = r} (may, (t, us, e, d)) =
     subst (λ z. UnaryAt M c z (expr_of v) r) (sym e) (unary (subst (λ z. M c z) e may) (operand_of t us (subst (λ z. SubjectAt M t.line (suc c) z v r) e d)))
 
-entered_postfix : {M : May Symbol} {c : ℕ} {ts : Symbols} {v : Subject} {r : Symbols} → Entered c M ts v r → IsPostfix v → M c ts × PostfixAt M (suc c) ts (expr_of v) r
+entered_postfix : {M : May Symbol} {c : ℕ} {ts : Symbols} {v : Subject} {r : Symbols} → Entered c M ts v r → IsPostfix v
+    → M c ts × PostfixAt M (suc c) ts (expr_of v) r
 entered_postfix {M = M} {c = c} {v = v} {r = r} (may, (t, us, e, d)) h =
     (may, subst (λ z. PostfixAt M (suc c) z (expr_of v) r) (sym e) (subject_postfix t us (subst (λ z. SubjectAt M t.line (suc c) z v r) e d) h))
 
-called_at : {M : May Symbol} {l : Line} {c : ℕ} {ts : Symbols} {f : Ident} {args : List Expr} {r : Symbols} → SubjectAt M l c ts (Subject.Call f args) r → CallAt M c ts f args r
+called_at : {M : May Symbol} {l : Line} {c : ℕ} {ts : Symbols} {f : Ident} {args : List Expr} {r : Symbols}
+    → SubjectAt M l c ts (Subject.Call f args) r → CallAt M c ts f args r
 called_at (of_call empty) = no_argument
 called_at (of_call (some d)) = call d
 
-entered_call : {M : May Symbol} {c : ℕ} {ts : Symbols} {f : Ident} {args : List Expr} {r : Symbols} → Entered c M ts (Subject.Call f args) r → M c ts × CallAt M (suc c) ts f args r
+entered_call : {M : May Symbol} {c : ℕ} {ts : Symbols} {f : Ident} {args : List Expr} {r : Symbols} → Entered c M ts (Subject.Call f args) r
+    → M c ts × CallAt M (suc c) ts f args r
 entered_call (may, (t, us, e, d)) = (may, called_at d)
 
-call_entered : {M : May Symbol} {c : ℕ} {ts : Symbols} {f : Ident} {args : List Expr} {r : Symbols} → CallAt M c ts f args r → Subjects c M ts (Subject.Call f args) r
+call_entered : {M : May Symbol} {c : ℕ} {ts : Symbols} {f : Ident} {args : List Expr} {r : Symbols} → CallAt M c ts f args r
+    → Subjects c M ts (Subject.Call f args) r
 call_entered no_argument = (_, _, refl, of_call empty)
 call_entered (call d) = (_, _, refl, of_call (some d))
 
@@ -111,7 +114,8 @@ operand_no_end (Some (Kind.Mark _)) e = false_true e
 data AssignAt (M : May Symbol) : Symbols → AssignOp → Symbols → Type 0 where
   assign_here : {p : Line} {k : Mark} {op : AssignOp} {ts : Symbols} → assign_op k ≡ Some op → AssignAt M (mark k p ∷ ts) op ts
 
-assign_reads_by : (M : May Symbol) (k : Kind) (p : Line) (op : AssignOp) (ts : Symbols) → spec.assign_in k ≡ Some op → AssignAt M (record { kind = k; line = p } ∷ ts) op ts
+assign_reads_by : (M : May Symbol) (k : Kind) (p : Line) (op : AssignOp) (ts : Symbols) → spec.assign_in k ≡ Some op
+    → AssignAt M (record { kind = k; line = p } ∷ ts) op ts
 assign_reads_by M (Kind.Mark k) p op ts e = assign_here e
 assign_reads_by M (Kind.Word w) p op ts e = none_some e
 assign_reads_by M (Kind.Id n) p op ts e = none_some e
@@ -126,7 +130,8 @@ reads_assign M ts op r (assign_here e) = reads e
 -- ---- behind the operand
 
 data SimpleEndAt (M : May Symbol) (l : Line) (c : ℕ) (v : Subject) : Symbols → Simple → Symbols → Type 0 where
-  assign_then : {p : Line} {k : Mark} {op : AssignOp} {ts r : Symbols} {b : Expr} → assign_op k ≡ Some op → ExprAt M c ts b r → SimpleEndAt M l c v (mark k p ∷ ts) (Simple.Assign l (expr_of v) op b) r
+  assign_then : {p : Line} {k : Mark} {op : AssignOp} {ts r : Symbols} {b : Expr} → assign_op k ≡ Some op → ExprAt M c ts b r
+      → SimpleEndAt M l c v (mark k p ∷ ts) (Simple.Assign l (expr_of v) op b) r
   increment_then : {p : Line} {r : Symbols} → IsPostfix v → SimpleEndAt M l c v (mark Mark.PlusPlus p ∷ r) (Simple.Increment l (expr_of v)) r
   decrement_then : {p : Line} {r : Symbols} → IsPostfix v → SimpleEndAt M l c v (mark Mark.MinusMinus p ∷ r) (Simple.Decrement l (expr_of v)) r
   call_then : {f : Ident} {args : List Expr} {r : Symbols} → v ≡ Subject.Call f args → SimpleEndAt M l c v r (Simple.Call f args) r
@@ -155,7 +160,8 @@ SimpleEndBy l c v SubjectEnd.Increment = IncrementBy l v
 SimpleEndBy l c v SubjectEnd.Decrement = DecrementBy l v
 SimpleEndBy l c v SubjectEnd.Other = CallBy v
 
-simple_end_to : (l : Line) (c : ℕ) (v : Subject) (k : SubjectEnd) (M : May Symbol) (ts : Symbols) (s : Simple) (r : Symbols) → SimpleEndBy l c v k M ts s r → SimpleEndAt M l c v ts s r
+simple_end_to : (l : Line) (c : ℕ) (v : Subject) (k : SubjectEnd) (M : May Symbol) (ts : Symbols) (s : Simple) (r : Symbols)
+    → SimpleEndBy l c v k M ts s r → SimpleEndAt M l c v ts s r
 simple_end_to l c v SubjectEnd.Assign M ts s r (op, m, assign_here e, (b, n, d, g)) = given g (SimpleEndAt M l c v _) (assign_then e d)
 simple_end_to l c (Subject.Prefixed a) SubjectEnd.Increment M ts s r d = absurd d
 simple_end_to l c (Subject.Postfix a) SubjectEnd.Increment M ts s r (p, m, marked, gives) = increment_then tt
@@ -167,21 +173,25 @@ simple_end_to l c (Subject.Prefixed a) SubjectEnd.Other M ts s r d = absurd d
 simple_end_to l c (Subject.Postfix a) SubjectEnd.Other M ts s r d = absurd d
 simple_end_to l c (Subject.Call f args) SubjectEnd.Other M ts s r gives = call_then refl
 
-increment_back : (l : Line) (c : ℕ) (v : Subject) (M : May Symbol) (p : Line) (r : Symbols) → IsPostfix v → IncrementBy l v M (mark Mark.PlusPlus p ∷ r) (Simple.Increment l (expr_of v)) r
+increment_back : (l : Line) (c : ℕ) (v : Subject) (M : May Symbol) (p : Line) (r : Symbols) → IsPostfix v
+    → IncrementBy l v M (mark Mark.PlusPlus p ∷ r) (Simple.Increment l (expr_of v)) r
 increment_back l c (Subject.Prefixed a) M p r h = absurd h
 increment_back l c (Subject.Postfix a) M p r h = (_, _, marked, gives)
 increment_back l c (Subject.Call f args) M p r h = (_, _, marked, gives)
 
-decrement_back : (l : Line) (c : ℕ) (v : Subject) (M : May Symbol) (p : Line) (r : Symbols) → IsPostfix v → DecrementBy l v M (mark Mark.MinusMinus p ∷ r) (Simple.Decrement l (expr_of v)) r
+decrement_back : (l : Line) (c : ℕ) (v : Subject) (M : May Symbol) (p : Line) (r : Symbols) → IsPostfix v
+    → DecrementBy l v M (mark Mark.MinusMinus p ∷ r) (Simple.Decrement l (expr_of v)) r
 decrement_back l c (Subject.Prefixed a) M p r h = absurd h
 decrement_back l c (Subject.Postfix a) M p r h = (_, _, marked, gives)
 decrement_back l c (Subject.Call f args) M p r h = (_, _, marked, gives)
 
-call_before : (l : Line) (c : ℕ) (f : Ident) (args : List Expr) (M : May Symbol) (ts : Symbols) → Fits AfterSimple ts → SimpleEndBy l c (Subject.Call f args) (subject_end (kind_of (next ts))) M ts (Simple.Call f args) ts
+call_before : (l : Line) (c : ℕ) (f : Ident) (args : List Expr) (M : May Symbol) (ts : Symbols) → Fits AfterSimple ts
+    → SimpleEndBy l c (Subject.Call f args) (subject_end (kind_of (next ts))) M ts (Simple.Call f args) ts
 call_before l c f args M [] h = gives
 call_before l c f args M (t ∷ ts) h = subst (λ z. SimpleEndBy l c (Subject.Call f args) z M (t ∷ ts) (Simple.Call f args) (t ∷ ts)) (sym h.1) gives
 
-simple_end_back : (l : Line) (c : ℕ) (v : Subject) (M : May Symbol) (ts : Symbols) (s : Simple) (r : Symbols) → SimpleEndAt M l c v ts s r → Fits AfterSimple r → SimpleEndBy l c v (subject_end (kind_of (next ts))) M ts s r
+simple_end_back : (l : Line) (c : ℕ) (v : Subject) (M : May Symbol) (ts : Symbols) (s : Simple) (r : Symbols) → SimpleEndAt M l c v ts s r
+    → Fits AfterSimple r → SimpleEndBy l c v (subject_end (kind_of (next ts))) M ts s r
 simple_end_back l c v M ts s r (assign_then {p = p} {k = k} {op = op} {ts = us} {b = b} e d) h =
     subst (λ z. SimpleEndBy l c v z M (mark k p ∷ us) (Simple.Assign l (expr_of v) op b) r) (sym (assign_sort k op e)) (op, us, assign_here e, (b, r, d, gives))
 simple_end_back l c v M ts s r (increment_then {p = p} i) h = increment_back l c v M p r i
@@ -204,7 +214,8 @@ postfix_no_call a f args e = absurd (cc)
 call_is : (f g : Ident) (args others : List Expr) → Subject.Call f args ≡ Subject.Call g others → Simple.Call f args ≡ Simple.Call g others
 call_is f g args others e = let i : f ≡ g = cc in let j : args ≡ others = cc in ap (λ z. Simple.Call z args) i ∙ ap (Simple.Call g) j
 
-call_only : (l : Line) (c : ℕ) (f : Ident) (args : List Expr) (M : May Symbol) (s : Simple) (r : Symbols) → SimpleEndAt M l c (Subject.Call f args) [] s r → (Simple.Call f args ≡ s) × ([] ≡ r)
+call_only : (l : Line) (c : ℕ) (f : Ident) (args : List Expr) (M : May Symbol) (s : Simple) (r : Symbols)
+    → SimpleEndAt M l c (Subject.Call f args) [] s r → (Simple.Call f args ≡ s) × ([] ≡ r)
 call_only l c f args M s r (call_then {f = g} {args = others} e) = (call_is f g args others e, refl)
 
 module _ (limit : ℕ) where
@@ -228,7 +239,8 @@ module _ (limit : ℕ) where
   call_branch (Subject.Postfix a) = refuses limit
   call_branch (Subject.Call f args) = branch limit (widen limit (gives_part limit (Simple.Call f args)) (λ t h. tt))
 
-  simple_end_branches : (l : Line) (c : ℕ) (v : Subject) (k : SubjectEnd) → Branch limit (spec.simple_by limit l c v k) (SimpleEndBy l c v k) (λ s. AfterSimple) AnyToken
+  simple_end_branches : (l : Line) (c : ℕ) (v : Subject) (k : SubjectEnd)
+      → Branch limit (spec.simple_by limit l c v k) (SimpleEndBy l c v k) (λ s. AfterSimple) AnyToken
   simple_end_branches l c v SubjectEnd.Assign =
       branch limit (narrow limit (seq limit assign_part (λ op. widen limit (seq limit (expr_at_part limit c) (λ b. gives_part limit (Simple.Assign l (expr_of v) op b))) (λ t h. tt))) (λ s t h. h.0))
   simple_end_branches l c v SubjectEnd.Increment = increment_branch l v
@@ -292,7 +304,8 @@ from_to l c SubjectEnd.Other M ts s r (v, m, d, e) = by_subject d e
 entered_begins : {M : May Symbol} {c : ℕ} {ts : Symbols} {v : Subject} {r : Symbols} → Entered c M ts v r → Begins is_operand ts
 entered_begins (may, (t, us, e, d)) = subject_begins d
 
-from_back : (l : Line) (c : ℕ) (M : May Symbol) (ts : Symbols) (s : Simple) (r : Symbols) → SimpleFrom M l c ts s r → SimpleBy l c (subject_end (kind_of (next ts))) M ts s r
+from_back : (l : Line) (c : ℕ) (M : May Symbol) (ts : Symbols) (s : Simple) (r : Symbols) → SimpleFrom M l c ts s r
+    → SimpleBy l c (subject_end (kind_of (next ts))) M ts s r
 from_back l c M ts s r (first_increment u) = (_, _, marked, (_, r, u, gives))
 from_back l c M ts s r (first_decrement u) = (_, _, marked, (_, r, u, gives))
 from_back l c M ts s r (by_subject {v = v} {m = m} d e) =
@@ -301,13 +314,16 @@ from_back l c M ts s r (by_subject {v = v} {m = m} d e) =
 abbrev pub Simples : ℕ → Form Symbol Simple
 Simples c M ts s r = SimpleAt M c ts s r
 
-increment_at : {M : May Symbol} {c : ℕ} {t : Symbol} {us : Symbols} {v : Subject} {p : Line} {r : Symbols} → Entered c M (t ∷ us) v (mark Mark.PlusPlus p ∷ r) → IsPostfix v → SimpleAt M c (t ∷ us) (Simple.Increment t.line (expr_of v)) r
+increment_at : {M : May Symbol} {c : ℕ} {t : Symbol} {us : Symbols} {v : Subject} {p : Line} {r : Symbols}
+    → Entered c M (t ∷ us) v (mark Mark.PlusPlus p ∷ r) → IsPostfix v → SimpleAt M c (t ∷ us) (Simple.Increment t.line (expr_of v)) r
 increment_at d h = let (may, e) = entered_postfix d h in increment may e
 
-decrement_at : {M : May Symbol} {c : ℕ} {t : Symbol} {us : Symbols} {v : Subject} {p : Line} {r : Symbols} → Entered c M (t ∷ us) v (mark Mark.MinusMinus p ∷ r) → IsPostfix v → SimpleAt M c (t ∷ us) (Simple.Decrement t.line (expr_of v)) r
+decrement_at : {M : May Symbol} {c : ℕ} {t : Symbol} {us : Symbols} {v : Subject} {p : Line} {r : Symbols}
+    → Entered c M (t ∷ us) v (mark Mark.MinusMinus p ∷ r) → IsPostfix v → SimpleAt M c (t ∷ us) (Simple.Decrement t.line (expr_of v)) r
 decrement_at d h = let (may, e) = entered_postfix d h in decrement may e
 
-call_at : {M : May Symbol} {c : ℕ} {ts : Symbols} {f : Ident} {args : List Expr} {r : Symbols} → Entered c M ts (Subject.Call f args) r → SimpleAt M c ts (Simple.Call f args) r
+call_at : {M : May Symbol} {c : ℕ} {ts : Symbols} {f : Ident} {args : List Expr} {r : Symbols} → Entered c M ts (Subject.Call f args) r
+    → SimpleAt M c ts (Simple.Call f args) r
 call_at d = let (may, e) = entered_call d in call_alone may e
 
 simple_to : (c : ℕ) (M : May Symbol) (t : Symbol) (us : Symbols) (s : Simple) (r : Symbols) → SimpleFrom M t.line c (t ∷ us) s r → SimpleAt M c (t ∷ us) s r
@@ -318,15 +334,18 @@ simple_to c M t us s r (by_subject d (increment_then h)) = increment_at d h
 simple_to c M t us s r (by_subject d (decrement_then h)) = decrement_at d h
 simple_to c M t us s r (by_subject {m = m} d (call_then e)) = call_at (subst (λ z. Entered c M (t ∷ us) z m) e d)
 
-increment_from : {M : May Symbol} {c : ℕ} {l p : Line} {ts r : Symbols} {a : Expr} → M c ts → PostfixAt M (suc c) ts a (mark Mark.PlusPlus p ∷ r) → SimpleFrom M l c ts (Simple.Increment l a) r
+increment_from : {M : May Symbol} {c : ℕ} {l p : Line} {ts r : Symbols} {a : Expr} → M c ts → PostfixAt M (suc c) ts a (mark Mark.PlusPlus p ∷ r)
+    → SimpleFrom M l c ts (Simple.Increment l a) r
 increment_from {M = M} {c = c} {l = l} {ts = ts} {r = r} may d =
     let (v, e, s, h) = postfix_subject d in subst (λ z. SimpleFrom M l c ts (Simple.Increment l z) r) e (by_subject (may, s) (increment_then h))
 
-decrement_from : {M : May Symbol} {c : ℕ} {l p : Line} {ts r : Symbols} {a : Expr} → M c ts → PostfixAt M (suc c) ts a (mark Mark.MinusMinus p ∷ r) → SimpleFrom M l c ts (Simple.Decrement l a) r
+decrement_from : {M : May Symbol} {c : ℕ} {l p : Line} {ts r : Symbols} {a : Expr} → M c ts → PostfixAt M (suc c) ts a (mark Mark.MinusMinus p ∷ r)
+    → SimpleFrom M l c ts (Simple.Decrement l a) r
 decrement_from {M = M} {c = c} {l = l} {ts = ts} {r = r} may d =
     let (v, e, s, h) = postfix_subject d in subst (λ z. SimpleFrom M l c ts (Simple.Decrement l z) r) e (by_subject (may, s) (decrement_then h))
 
-assign_from : {M : May Symbol} {c : ℕ} {l p : Line} {ts m r : Symbols} {k : Mark} {op : AssignOp} {a b : Expr} → UnaryAt M c ts a (mark k p ∷ m) → assign_op k ≡ Some op → ExprAt M c m b r → SimpleFrom M l c ts (Simple.Assign l a op b) r
+assign_from : {M : May Symbol} {c : ℕ} {l p : Line} {ts m r : Symbols} {k : Mark} {op : AssignOp} {a b : Expr} → UnaryAt M c ts a (mark k p ∷ m)
+    → assign_op k ≡ Some op → ExprAt M c m b r → SimpleFrom M l c ts (Simple.Assign l a op b) r
 assign_from {M = M} {c = c} {l = l} {ts = ts} {r = r} {op = op} {b = b} u e d =
     let (v, f, s) = unary_entered u in subst (λ z. SimpleFrom M l c ts (Simple.Assign l z op b) r) f (by_subject s (assign_then e d))
 
@@ -335,7 +354,8 @@ call_line : {M : May Symbol} {c : ℕ} {ts : Symbols} {f : Ident} {args : List E
 call_line may no_argument = (_, _, refl, by_subject (may, call_entered no_argument) (call_then refl))
 call_line may (call d) = (_, _, refl, by_subject (may, call_entered (call d)) (call_then refl))
 
-simple_back : (c : ℕ) (M : May Symbol) (ts : Symbols) (s : Simple) (r : Symbols) → SimpleAt M c ts s r → (t : Symbol) × (us : Symbols) × (ts ≡ t ∷ us) × SimpleFrom M t.line c ts s r
+simple_back : (c : ℕ) (M : May Symbol) (ts : Symbols) (s : Simple) (r : Symbols) → SimpleAt M c ts s r
+    → (t : Symbol) × (us : Symbols) × (ts ≡ t ∷ us) × SimpleFrom M t.line c ts s r
 simple_back c M ts s r (assign u e b) = (_, _, refl, assign_from u e b)
 simple_back c M ts s r (increment may d) = (_, _, refl, increment_from may d)
 simple_back c M ts s r (decrement may d) = (_, _, refl, decrement_from may d)

@@ -1,5 +1,5 @@
 -- The knot: a statement within a statement.
-use Rattle.std.proofs.Common.{◌≡◌, ℕ, zero, suc, pos, ◌+◌, ◌<◌, ◌≤◌, Bool, true, false, Option, Some, None, List, [], ◌∷◌, ◌++◌, length, refl, sym, ap, subst, ◌∙◌, append_assoc, arith}
+use Rattle.std.proofs.Common.{◌≡◌, ℕ, zero, suc, ◌+◌, ◌<◌, ◌≤◌, true, Some, None, [], ◌∷◌, ◌++◌, refl, sym, subst, append_assoc, arith}
 use Rattle.dfi_base.specs.declared.numbers.Line.{Line}
 use Rattle.c_lex.specs.declared.token.Word.{Word}
 use Rattle.c_lex.specs.declared.token.Mark.{Mark}
@@ -9,26 +9,26 @@ use Rattle.c_ast.specs.declared.stmt.Simple.{Simple}
 use Rattle.c_ast.specs.declared.stmt.ForStart.{ForStart}
 use Rattle.c_ast.specs.declared.stmt.Stmt.{Stmt}
 use Rattle.c_ast.specs.declared.stmt.Stmt.TheVariants as s
-use Rattle.parse_laws.specs.Parsing.{unexpected, fault, deep, Parser, refuse}
+use Rattle.parse_laws.specs.Parsing.{unexpected, fault, deep, refuse}
 use Rattle.parse_laws.specs.Nesting.{May}
-use Rattle.parse_laws.proofs.Forms.{Form, Follow, Fits, Free, Completes, Law}
+use Rattle.parse_laws.proofs.Forms.{Free, Completes, Law}
 use Rattle.parse_laws.proofs.Bind.{free_last}
 use Rattle.parse_laws.proofs.Steps.{false_true}
 use Rattle.parse_laws.proofs.Heads.{level_law}
 use Rattle.parse_laws.proofs.Repeat.{Takes}
-use Rattle.c_parse.specs.declared.subject.Subject.{Subject}
-use Rattle.c_parse.specs.Symbol.{Symbol, Symbols, word, mark, name, number}
+use Rattle.c_parse.specs.Symbol.{Symbol, Symbols, mark}
 use Rattle.c_parse.specs.Sorts.{is_stmt, is_operand}
-use Rattle.c_parse.specs.Tokens.{P, next, kind_of, goes}
-use Rattle.c_parse.specs.Stmts.{StmtAt, stmt, StatementAt, braced, empty, simple, return, break, continue, if_alone, while, for, par, block, no_item, no_branch, SimpleAt, assign, pre_increment, pre_decrement, OptionalExprAt, OptionalSimpleAt, ForStartAt}
+use Rattle.c_parse.specs.Tokens.{P, goes}
+use Rattle.c_parse.specs.Stmts.{StmtAt, stmt, StatementAt, braced, empty, simple, return, break, continue, if_alone, while, for, par, block, no_item, no_branch, assign, pre_increment, pre_decrement, OptionalExprAt, OptionalSimpleAt, ForStartAt}
 use Rattle.c_parse.specs.ExprParser.{expr_of, entering}
 use Rattle.c_parse.specs.StmtParser as spec
 use Rattle.c_parse.proofs.TokenParts.{line_one}
 use Rattle.c_parse.proofs.LevelLaws.{zero_unary, zero_expr, zero_symbol, zero_tree}
-use Rattle.c_parse.proofs.OperandLaws.{Subjects, takes_entering, takes_refuse}
+use Rattle.c_parse.proofs.OperandForms.{Subjects, takes_entering, takes_refuse}
 use Rattle.c_parse.proofs.SubjectLaws.{Then, entering_law, subject_one}
 use Rattle.c_parse.proofs.SimpleLaws.{entered_unary}
-use Rattle.c_parse.proofs.StmtLaws.{AfterStmt, Stmts, Statements, statement_begins, first_token, after_alone, no_else_there, statement_part, takes_statement}
+use Rattle.c_parse.proofs.StmtForms.{AfterStmt, Stmts, Statements, statement_begins, first_token, after_alone, no_else_there}
+use Rattle.c_parse.proofs.StmtLaws.{statement_part, takes_statement}
 
 module _ (limit : ℕ) where
   -- a statement that begins with an operand: `= 0 ;` completes it
@@ -105,7 +105,8 @@ module _ (limit : ℕ) where
   stmt_back : (c : ℕ) (M : May Symbol) (ts : Symbols) (a : Stmt) (r : Symbols) → StmtAt M c ts a r → M c ts × StatementAt M (suc c) ts a r
   stmt_back c M ts a r (stmt may d) = (may, d)
 
-  enter : (c : ℕ) (q : ℕ → P Stmt) → (c < limit → Law limit (q (suc c)) (Statements (suc c)) AfterStmt) → Law limit (entering is_stmt limit c q) (Stmts c) AfterStmt
+  enter : (c : ℕ) (q : ℕ → P Stmt) → (c < limit → Law limit (q (suc c)) (Statements (suc c)) AfterStmt)
+      → Law limit (entering is_stmt limit c q) (Stmts c) AfterStmt
   enter c q law =
       entering_law is_stmt refl limit c q (Stmts c) AfterStmt
       (level_law limit c (goes is_stmt) q (Stmts c) (Statements (suc c)) AfterStmt (λ M ts a r may d. stmt may d) (stmt_back c)

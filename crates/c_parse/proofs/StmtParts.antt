@@ -1,5 +1,5 @@
 -- The parts of statements that hold no statement are read by their grammar.
-use Rattle.std.proofs.Common.{◌≡◌, ℕ, suc, pos, ◌+◌, ◌<◌, ◌≤◌, Bool, true, false, Option, Some, None, List, [], ◌∷◌, ◌++◌, length, refl, sym, ap, subst, ◌∙◌, arith}
+use Rattle.std.proofs.Common.{◌≡◌, ℕ, Bool, true, false, Option, Some, None, [], ◌∷◌, refl, sym, subst, ◌∙◌}
 use Rattle.dfi_base.specs.declared.numbers.Line.{Line}
 use Rattle.c_lex.specs.declared.token.Word.{Word}
 use Rattle.c_lex.specs.declared.token.Mark.{Mark}
@@ -8,25 +8,22 @@ use Rattle.c_ast.specs.declared.decl.Decl.{Decl}
 use Rattle.c_ast.specs.declared.expr.Expr.{Expr}
 use Rattle.c_ast.specs.declared.stmt.Simple.{Simple}
 use Rattle.c_ast.specs.declared.stmt.ForStart.{ForStart}
-use Rattle.parse_laws.specs.Parsing.{Parser, ◌>>=◌, ◌>>◌, pure}
 use Rattle.parse_laws.specs.Nesting.{May}
-use Rattle.parse_laws.proofs.Forms.{Form, Follow, Fits, Completes, Law}
-use Rattle.parse_laws.proofs.Bind.{Seq, Leads}
-use Rattle.parse_laws.proofs.Steps.{Any, fits_any, false_true}
+use Rattle.parse_laws.proofs.Forms.{Form, Fits}
+use Rattle.parse_laws.proofs.Bind.{Seq}
+use Rattle.parse_laws.proofs.Steps.{Any, false_true}
 use Rattle.c_parse.specs.declared.sorts.StmtStart.{StmtStart}
-use Rattle.c_parse.specs.Symbol.{Symbol, Symbols, word, mark, name, number}
+use Rattle.c_parse.specs.Symbol.{Symbol, Symbols, mark}
 use Rattle.c_parse.specs.Operators.{tiers}
-use Rattle.c_parse.specs.Sorts.{is_operand, is_base, stmt_start, mark_start, word_start}
-use Rattle.c_parse.specs.Tokens.{P, next, kind_of, choose, want, is_mark}
-use Rattle.c_parse.specs.Types.{BaseAt, int, struct}
-use Rattle.c_parse.specs.Exprs.{ExprAt}
+use Rattle.c_parse.specs.Sorts.{is_operand, is_base, stmt_start}
+use Rattle.c_parse.specs.Tokens.{next, kind_of, want}
 use Rattle.c_parse.specs.Stmts.{DeclAt, decl as decl_at, SimpleAt, assign, increment, decrement, pre_increment, pre_decrement, call, OptionalExprAt, OptionalSimpleAt, ForStartAt}
 use Rattle.c_parse.specs.StmtParser as spec
-use Rattle.c_parse.proofs.Parts.{Part, Gives, gives, given, gives_part, seq, narrow, widen, relead, restate, Branch, branch, refuses, Void, dispatch, dispatch_empty}
+use Rattle.c_parse.proofs.Parts.{Part, Gives, gives, gives_part, seq, narrow, widen, Branch, branch, dispatch, dispatch_empty}
 use Rattle.c_parse.proofs.TokenParts.{MarkAt, marked, mark_any, mark_part, AnyToken, line_one, Only, only_mark}
-use Rattle.c_parse.proofs.LevelLaws.{AfterOperand, AfterLevel, zero_expr, zero_symbol, zero_tree}
+use Rattle.c_parse.proofs.LevelLaws.{AfterLevel}
 use Rattle.c_parse.proofs.Begins.{Begins, base_begins, call_begins, postfix_begins, unary_begins, expr_begins, no_mark}
-use Rattle.c_parse.proofs.OperandLaws.{expr_then_close, expr_then_semicolon}
+use Rattle.c_parse.proofs.OperandForms.{expr_then_close, expr_then_semicolon}
 use Rattle.c_parse.proofs.DeclLaws.{E, expr_at_part, Decls, decl_part}
 use Rattle.c_parse.proofs.SimpleLaws.{AfterSimple, Simples, simple_part}
 
@@ -79,7 +76,8 @@ simple_no_base (Some (Kind.Word Word.Struct)) e = false_true e
 simple_no_base (Some (Kind.Word _)) e = refl
 
 -- what passes the test is neither the mark nor the end
-pub no_end : (test : Option Kind → Bool) (m : Mark) → test (Some (Kind.Mark m)) ≡ false → test None ≡ false → (k : Option Kind) → test k ≡ true → spec.is_end m k ≡ false
+pub no_end : (test : Option Kind → Bool) (m : Mark) → test (Some (Kind.Mark m)) ≡ false → test None ≡ false → (k : Option Kind) → test k ≡ true
+    → spec.is_end m k ≡ false
 no_end test m not_mark not_none None e = false_true (sym not_none ∙ e)
 no_end test m not_mark not_none (Some k) e = no_mark test m not_mark (Some k) e
 
@@ -132,7 +130,8 @@ abbrev OptionalSimpleBy : ℕ → Bool → Form Symbol (Option Simple)
 OptionalSimpleBy c true = Gives None
 OptionalSimpleBy c false = Seq (Simples c) (λ a. Gives (Some a))
 
-optional_simple_to : (c : ℕ) (b : Bool) (M : May Symbol) (ts : Symbols) (a : Option Simple) (r : Symbols) → OptionalSimpleBy c b M ts a r → OptionalSimpleAt M c ts a r
+optional_simple_to : (c : ℕ) (b : Bool) (M : May Symbol) (ts : Symbols) (a : Option Simple) (r : Symbols) → OptionalSimpleBy c b M ts a r
+    → OptionalSimpleAt M c ts a r
 optional_simple_to c true M ts a r gives = OptionalSimpleAt.none
 optional_simple_to c false M ts a r (x, m, d, gives) = OptionalSimpleAt.some d
 
@@ -177,11 +176,13 @@ pub decl_begins : {M : May Symbol} {c : ℕ} {ts : Symbols} {d : Decl} {r : Symb
 decl_begins (decl_at e f) = base_begins e
 
 -- no declaration begins where a simple statement or its semicolon stands
-no_base_first : {M : May Symbol} {c : ℕ} {ts : Symbols} {a : Option Simple} {l : Line} {r : Symbols} → OptionalSimpleAt M c ts a (mark Mark.Semicolon l ∷ r) → is_base (kind_of (next ts)) ≡ false
+no_base_first : {M : May Symbol} {c : ℕ} {ts : Symbols} {a : Option Simple} {l : Line} {r : Symbols}
+    → OptionalSimpleAt M c ts a (mark Mark.Semicolon l ∷ r) → is_base (kind_of (next ts)) ≡ false
 no_base_first OptionalSimpleAt.none = refl
 no_base_first {ts = ts} (OptionalSimpleAt.some d) = simple_no_base (kind_of (next ts)) (simple_begins d)
 
-for_start_back : (c : ℕ) (M : May Symbol) (ts : Symbols) (a : ForStart) (r : Symbols) → ForStartAt M c ts a r → ForStartBy c (is_base (kind_of (next ts))) M ts a r
+for_start_back : (c : ℕ) (M : May Symbol) (ts : Symbols) (a : ForStart) (r : Symbols) → ForStartAt M c ts a r
+    → ForStartBy c (is_base (kind_of (next ts))) M ts a r
 for_start_back c M ts a r (ForStartAt.decl {d = d} e) = subst (λ z. ForStartBy c z M ts (ForStart.Decl d) r) (sym (decl_begins e)) (d, r, e, gives)
 for_start_back c M ts a r (ForStartAt.simple {a = x} d) = subst (λ z. ForStartBy c z M ts (ForStart.Simple x) r) (sym (no_base_first d)) (x, _, d, (_, r, marked, gives))
 

@@ -1,5 +1,5 @@
 -- The knot: a `unary` within a `unary`.
-use Rattle.std.proofs.Common.{◌≡◌, ℕ, zero, suc, ℤ, pos, ◌+◌, ◌<◌, ◌≤◌, Bool, true, false, nat_lt, if◌then◌else◌, Option, Some, None, List, [], ◌∷◌, ◌++◌, length, refl, sym, ap, subst, ◌∙◌, arith}
+use Rattle.std.proofs.Common.{◌≡◌, ℕ, zero, suc, ◌+◌, ◌<◌, ◌≤◌, Bool, true, false, if◌then◌else◌, Option, Some, None, List, [], ◌∷◌, refl, sym, ap, subst, arith}
 use Rattle.dfi_base.specs.declared.numbers.Line.{Line}
 use Rattle.c_lex.specs.declared.token.Word.{Word}
 use Rattle.c_lex.specs.declared.token.Mark.{Mark}
@@ -9,9 +9,9 @@ use Rattle.c_ast.specs.declared.decl.Base.{Base}
 use Rattle.c_ast.specs.declared.expr.UnaryOp.{UnaryOp}
 use Rattle.c_ast.specs.declared.expr.Expr.{Expr}
 use Rattle.c_parse.specs.Nodes as tree
-use Rattle.parse_laws.specs.Parsing.{fault, unexpected, deep, Parser, ◌>>=◌, pure, peek, at_next, rising, refuse, level}
+use Rattle.parse_laws.specs.Parsing.{fault, unexpected, deep, peek, rising, refuse, level}
 use Rattle.parse_laws.specs.Nesting.{May}
-use Rattle.parse_laws.proofs.Forms.{Form, Follow, Fits, Completes, Law}
+use Rattle.parse_laws.proofs.Forms.{Form, Follow, Completes, Law}
 use Rattle.parse_laws.proofs.Bind.{Seq}
 use Rattle.parse_laws.proofs.Steps.{fits_any, false_true}
 use Rattle.parse_laws.proofs.Heads.{level_law}
@@ -22,22 +22,25 @@ use Rattle.c_parse.specs.Operators.{unary_op}
 use Rattle.c_parse.specs.Sorts.{is_operand, is_operand_by}
 use Rattle.c_parse.specs.Tokens.{P, next, kind_of, goes}
 use Rattle.c_parse.specs.Types.{type_name, int, no_star}
-use Rattle.c_parse.specs.Exprs.{UnaryAt, unary, OperandAt, prefixed, cast, suffixed, PostfixAt, postfix, SuffixesAt, no_suffix, index, field, arrow, PrimaryAt, numeral, null, variable, called, paren, sizeof, CallAt, no_argument, call}
+use Rattle.c_parse.specs.Exprs.{UnaryAt, unary, OperandAt, prefixed, cast, suffixed, PostfixAt, postfix, SuffixesAt, no_suffix, index, field, arrow, numeral, null, variable, called, paren, sizeof, CallAt, no_argument, call}
 use Rattle.c_parse.specs.ExprParser as spec
 use Rattle.c_parse.proofs.Parts.{Part, Gives, gives, given, gives_part, seq, restate}
 use Rattle.c_parse.proofs.TokenParts.{AnyToken, line_one}
 use Rattle.c_parse.proofs.LevelLaws.{AfterOperand, zero_unary, zero_expr, zero_symbol, zero_tree, Unaries}
 use Rattle.c_parse.proofs.Begins.{Begins, prefix_sort}
-use Rattle.c_parse.proofs.OperandLaws.{InCall, empty, some, SubjectAt, before, converted, grouped, of_number, of_null, of_name, of_sizeof, of_call, of_called, Subjects, operand_part, takes_operand, takes_entering, takes_refuse}
+use Rattle.c_parse.proofs.OperandForms.{empty, some, SubjectAt, before, converted, grouped, of_number, of_null, of_name, of_sizeof, of_call, of_called, Subjects, takes_entering, takes_refuse}
+use Rattle.c_parse.proofs.OperandLaws.{operand_part, takes_operand}
 
 -- ---- the counter rises at the first token of a form
 
-entering_level : {A : Type 0} (begins : Option Kind → Bool) → begins None ≡ false → (limit c : ℕ) (q : ℕ → P A) (ts : Symbols) → level (goes begins) limit c q ts ≡ spec.entering begins limit c q ts
+entering_level : {A : Type 0} (begins : Option Kind → Bool) → begins None ≡ false → (limit c : ℕ) (q : ℕ → P A) (ts : Symbols)
+    → level (goes begins) limit c q ts ≡ spec.entering begins limit c q ts
 unfolding peek
 entering_level begins none limit c q [] = sym (ap (λ b. if b then rising limit c q [] else refuse unexpected []) none)
 entering_level begins none limit c q (t ∷ ts) = choose_by (goes begins t)
   where
-    choose_by : (b : Bool) → (if b then rising limit c q else refuse unexpected) (t ∷ ts) ≡ (if b then rising limit c q (t ∷ ts) else refuse unexpected (t ∷ ts))
+    choose_by : (b : Bool)
+        → (if b then rising limit c q else refuse unexpected) (t ∷ ts) ≡ (if b then rising limit c q (t ∷ ts) else refuse unexpected (t ∷ ts))
     choose_by true = refl
     choose_by false = refl
 
@@ -48,7 +51,8 @@ entering_law begins none limit c q D F law = subst (λ p. Law limit p D F) (λ i
 
 -- ---- a subject as an operand
 
-pub operand_of : {M : May Symbol} {c : ℕ} (t : Symbol) (us : Symbols) {v : Subject} {r : Symbols} → SubjectAt M t.line c (t ∷ us) v r → OperandAt M c (t ∷ us) (spec.expr_of v) r
+pub operand_of : {M : May Symbol} {c : ℕ} (t : Symbol) (us : Symbols) {v : Subject} {r : Symbols} → SubjectAt M t.line c (t ∷ us) v r
+    → OperandAt M c (t ∷ us) (spec.expr_of v) r
 operand_of t us (before e u) = prefixed e u
 operand_of t us (converted d u) = cast d u
 operand_of t us (grouped d s) = suffixed (postfix (paren d) s)
@@ -69,7 +73,8 @@ IsPostfix _ = Unit {0}
 abbrev AsPostfix : May Symbol → ℕ → Symbols → Expr → Symbols → Type 0
 AsPostfix M c ts a r = (v : Subject) × (spec.expr_of v ≡ a) × Subjects c M ts v r × IsPostfix v
 
-in_call : {M : May Symbol} {c : ℕ} {t : Symbol} {us : Symbols} {f : Ident} {args : List Expr} {m : Symbols} → CallAt M c (t ∷ us) f args m → {b : Expr} {r : Symbols} {d : ℕ}
+in_call : {M : May Symbol} {c : ℕ} {t : Symbol} {us : Symbols} {f : Ident} {args : List Expr} {m : Symbols} → CallAt M c (t ∷ us) f args m
+    → {b : Expr} {r : Symbols} {d : ℕ}
     → SuffixesAt M t.line c (tree.Call f args) m b r d → AsPostfix M c (t ∷ us) b r
 in_call no_argument no_suffix = (_, refl, (_, _, refl, of_call empty), tt)
 in_call no_argument (index may e ds) = (_, refl, (_, _, refl, of_called empty refl (index may e ds)), tt)
@@ -88,7 +93,8 @@ postfix_subject (postfix (called d) s) = in_call d s
 postfix_subject (postfix (paren d) s) = (_, refl, (_, _, refl, grouped d s), tt)
 postfix_subject (postfix (sizeof d) s) = (_, refl, (_, _, refl, of_sizeof d s), tt)
 
-pub subject_postfix : {M : May Symbol} {c : ℕ} (t : Symbol) (us : Symbols) {v : Subject} {r : Symbols} → SubjectAt M t.line c (t ∷ us) v r → IsPostfix v → PostfixAt M c (t ∷ us) (spec.expr_of v) r
+pub subject_postfix : {M : May Symbol} {c : ℕ} (t : Symbol) (us : Symbols) {v : Subject} {r : Symbols} → SubjectAt M t.line c (t ∷ us) v r
+    → IsPostfix v → PostfixAt M c (t ∷ us) (spec.expr_of v) r
 subject_postfix t us (before e u) h = absurd h
 subject_postfix t us (converted d u) h = absurd h
 subject_postfix t us (grouped d s) h = postfix (paren d) s
@@ -101,7 +107,8 @@ subject_postfix t us (of_call (some d)) h = postfix (called (call d)) no_suffix
 subject_postfix t us (of_called empty e s) h = postfix (called no_argument) s
 subject_postfix t us (of_called (some d) e s) h = postfix (called (call d)) s
 
-pub operand_subject : {M : May Symbol} {c : ℕ} {ts : Symbols} {a : Expr} {r : Symbols} → OperandAt M c ts a r → (v : Subject) × (spec.expr_of v ≡ a) × Subjects c M ts v r
+pub operand_subject : {M : May Symbol} {c : ℕ} {ts : Symbols} {a : Expr} {r : Symbols} → OperandAt M c ts a r
+    → (v : Subject) × (spec.expr_of v ≡ a) × Subjects c M ts v r
 operand_subject (prefixed e u) = (_, refl, (_, _, refl, before e u))
 operand_subject (cast d u) = (_, refl, (_, _, refl, converted d u))
 operand_subject (suffixed d) = let (v, e, s, h) = postfix_subject d in (v, e, s)
@@ -161,7 +168,8 @@ module _ (limit : ℕ) where
   }
   subject_one c _ p e = absurd (false_true e)
 
-  enter : (c : ℕ) (q : ℕ → P Subject) → (c < limit → Law limit (q (suc c)) (Subjects (suc c)) Then) → Law limit (spec.entering is_operand limit c q) (Entered c) Then
+  enter : (c : ℕ) (q : ℕ → P Subject) → (c < limit → Law limit (q (suc c)) (Subjects (suc c)) Then)
+      → Law limit (spec.entering is_operand limit c q) (Entered c) Then
   enter c q law =
       entering_law is_operand refl limit c q (Entered c) Then
       (level_law limit c (goes is_operand) q (Entered c) (Subjects (suc c)) Then (λ M ts v r may d. (may, d)) (λ M ts v r d. d)

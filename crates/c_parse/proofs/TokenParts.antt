@@ -1,5 +1,5 @@
 -- Tokens that are wanted, as parts.
-use Rattle.std.proofs.Common.{◌≡◌, ℕ, ℤ, pos, Bool, true, false, if◌then◌else◌, Option, Some, None, List, [], ◌∷◌, refl, sym, ap, subst, ◌∙◌}
+use Rattle.std.proofs.Common.{◌≡◌, ℕ, ℤ, pos, Bool, true, false, Option, Some, None, [], ◌∷◌, refl, sym, ap, subst, ◌∙◌}
 use Rattle.dfi_base.specs.declared.numbers.Line.{Line}
 use Rattle.c_lex.specs.declared.token.Word.{Word}
 use Rattle.c_lex.specs.declared.token.Mark.{Mark}
@@ -7,9 +7,8 @@ use Rattle.c_lex.specs.declared.token.Kind.{Kind}
 use Rattle.c_lex.specs.contracts.token.Word as word_type
 use Rattle.c_lex.specs.contracts.token.Mark as mark_type
 use Rattle.c_ast.specs.declared.ident.Ident.{Ident}
-use Rattle.parse_laws.specs.Parsing.{Parser}
 use Rattle.parse_laws.specs.Nesting.{May}
-use Rattle.parse_laws.proofs.Forms.{Form, Follow, Fits, Completes}
+use Rattle.parse_laws.proofs.Forms.{Form, Follow, Completes}
 use Rattle.parse_laws.proofs.Steps.{Any, nil_cons, false_true}
 use Rattle.c_parse.specs.Symbol.{Symbol, Symbols, word, mark, name, number}
 use Rattle.c_parse.specs.Tokens.{P, next, want, located, located_by, line_next, same_mark, same_word, is_mark, is_word, when, mark_at, word_at, ident_in, ident_at, number_in, number_at}
@@ -128,7 +127,8 @@ only_mark m S holds t e = subst S (only_by m t.kind t.line e) (holds t.line)
 pub line_one : Line
 line_one = record { 0 = 1 }
 
-any_begins : (S : Symbol → Type 0) (value : Symbol → Option Line) (make : Line → Symbol) → ((t : Symbol) (l : Line) → value t ≡ Some l → t ≡ make l) → ((l : Line) → S (make l))
+any_begins : (S : Symbol → Type 0) (value : Symbol → Option Line) (make : Line → Symbol) → ((t : Symbol) (l : Line) → value t ≡ Some l → t ≡ make l)
+    → ((l : Line) → S (make l))
     → (t : Symbol) (l : Line) → value t ≡ Some l → S t
 any_begins S value make is begins t l e = subst S (sym (is t l e)) (begins l)
 

@@ -1,5 +1,5 @@
 -- Types and declarators are read by their grammar.
-use Rattle.std.proofs.Common.{◌≡◌, ℕ, zero, suc, ℤ, pos, ◌+◌, ◌<◌, ◌≤◌, ◌⊎◌, inl, inr, Bool, true, false, Option, Some, None, List, [], ◌∷◌, ◌++◌, length, refl, sym, ap, subst, ◌∙◌, arith}
+use Rattle.std.proofs.Common.{◌≡◌, ℕ, suc, ℤ, ◌+◌, ◌⊎◌, inl, inr, Bool, true, false, Option, Some, None, List, [], ◌∷◌, refl, sym, ap, subst, arith}
 use Rattle.dfi_base.specs.declared.numbers.Line.{Line}
 use Rattle.c_lex.specs.declared.token.Word.{Word}
 use Rattle.c_lex.specs.declared.token.Mark.{Mark}
@@ -11,22 +11,22 @@ use Rattle.c_ast.specs.declared.decl.Brackets.{Brackets}
 use Rattle.c_ast.specs.declared.decl.ProtoParam.{ProtoParam}
 use Rattle.c_ast.specs.declared.decl.ProtoParams.{ProtoParams}
 use Rattle.c_ast.specs.declared.ident.Ident.{Ident}
-use Rattle.parse_laws.specs.Parsing.{Parser, ◌>>=◌, ◌>>◌, pure, repeat, many}
-use Rattle.parse_laws.specs.Nesting.{May, Anywhere}
-use Rattle.parse_laws.proofs.Forms.{Form, Follow, Fits, Free, Completes, Law}
+use Rattle.parse_laws.specs.Parsing.{◌>>=◌, ◌>>◌, pure, repeat}
+use Rattle.parse_laws.specs.Nesting.{May}
+use Rattle.parse_laws.proofs.Forms.{Form, Fits, Law}
 use Rattle.parse_laws.proofs.Bind.{Seq, Leads}
 use Rattle.parse_laws.proofs.Carry.{fits_fewer}
 use Rattle.parse_laws.proofs.Steps.{Any, fits_any}
-use Rattle.parse_laws.proofs.Repeat.{repeat_law, many_law, many_leads, many_completes, Takes, takes_first}
+use Rattle.parse_laws.proofs.Repeat.{repeat_law, Takes}
 use Rattle.c_parse.specs.Symbol.{Symbol, Symbols, word, mark, name, number}
-use Rattle.c_parse.specs.Tokens.{P, next, want, kind_of, choose, located, located_by, line_next, is_mark, is_ident, mark_at, word_at, ident_at, number_at}
+use Rattle.c_parse.specs.Tokens.{next, want, kind_of, choose, is_mark, is_ident, mark_at, number_at}
 use Rattle.c_parse.specs.Sorts.{base_word, list_start}
 use Rattle.c_parse.specs.declared.sorts.BaseWord.{BaseWord}
 use Rattle.c_parse.specs.declared.sorts.ListStart.{ListStart}
 use Rattle.c_parse.specs.Types.{BaseAt, int, struct, StarsAt, no_star, star, LengthsAt, no_length, length as one_length, TypeNameAt, type_name, DeclaratorAt, declarator, BracketsAt, NameAt, ProtoParamAt, ProtoParamsAt, ProtoListAt}
 use Rattle.c_parse.specs.TypeParser as p
 use Rattle.c_parse.proofs.Parts.{Part, takes_want, Gives, gives, gives_part, seq, takes_seq, narrow, widen, relead, restate, Branch, branch, refuses, Void, dispatch, dispatch_empty}
-use Rattle.c_parse.proofs.TokenParts.{MarkAt, marked, WordAt, worded, IdentAt, named, NumberAt, numbered, mark_part, mark_any, ident_part, word_any, ident_any, number_any, AnyToken, line_one, located_part, Only, only_mark}
+use Rattle.c_parse.proofs.TokenParts.{MarkAt, marked, WordAt, worded, IdentAt, named, NumberAt, numbered, mark_any, ident_part, word_any, ident_any, number_any, AnyToken, line_one, located_part, Only, only_mark}
 use Rattle.c_parse.proofs.Lists.{many_part, list_part, Others, Tail, no_tail, tail}
 
 abbrev pub Not : (Option Kind → Bool) → Symbol → Type 0
@@ -127,14 +127,16 @@ length_split : (M : May Symbol) (ts r : Symbols) (all : List ℤ) → LengthsAt 
 length_split M ts r all no_length = inl (refl, refl)
 length_split M ts r all (one_length ds) = inr (_, _, _, refl, (_, _, marked, (_, _, numbered, (_, _, marked, gives))), ds)
 
-length_starts : (M : May Symbol) (ts m : Symbols) (a : ℤ) → Bracketed M ts a m → (t : Symbol) × (us : Symbols) × (ts ≡ t ∷ us) × (p.has Mark.OpenBracket t ≡ true) × ((b : ℤ) → AnyToken t)
+length_starts : (M : May Symbol) (ts m : Symbols) (a : ℤ) → Bracketed M ts a m
+    → (t : Symbol) × (us : Symbols) × (ts ≡ t ∷ us) × (p.has Mark.OpenBracket t ≡ true) × ((b : ℤ) → AnyToken t)
 length_starts M ts m a (l, n, marked, d) = (_, _, refl, refl, λ b. tt)
 
 abbrev pub NoBracket : Symbol → Type 0
 NoBracket = Not (is_mark Mark.OpenBracket)
 
 module _ (limit : ℕ) where
-  behind_bracket : (l : Line) → Part limit (want number_at >>= (λ k. want (mark_at Mark.CloseBracket) >> pure k)) (Seq NumberAt (λ k. Seq (MarkAt Mark.CloseBracket) (λ q. Gives k))) Any AnyToken
+  behind_bracket : (l : Line)
+      → Part limit (want number_at >>= (λ k. want (mark_at Mark.CloseBracket) >> pure k)) (Seq NumberAt (λ k. Seq (MarkAt Mark.CloseBracket) (λ q. Gives k))) Any AnyToken
   behind_bracket l = seq limit (number_any limit) (λ k. seq limit (mark_any limit Mark.CloseBracket) (λ q. gives_part limit k))
 
   bracketed_part : Part limit p.bracketed Bracketed Any AnyToken
@@ -158,10 +160,12 @@ module _ (limit : ℕ) where
 abbrev TypeNames : Form Symbol TypeName
 TypeNames M ts a r = TypeNameAt ts a r
 
-type_name_to : (M : May Symbol) (ts : Symbols) (a : TypeName) (r : Symbols) → Seq Bases (λ b. Seq Stars (λ n. Gives (record { base = b; stars = n }))) M ts a r → TypeNameAt ts a r
+type_name_to : (M : May Symbol) (ts : Symbols) (a : TypeName) (r : Symbols)
+    → Seq Bases (λ b. Seq Stars (λ n. Gives (record { base = b; stars = n }))) M ts a r → TypeNameAt ts a r
 type_name_to M ts a r (b, m, d, (n, o, e, gives)) = type_name d e
 
-type_name_back : (M : May Symbol) (ts : Symbols) (a : TypeName) (r : Symbols) → TypeNameAt ts a r → Seq Bases (λ b. Seq Stars (λ n. Gives (record { base = b; stars = n }))) M ts a r
+type_name_back : (M : May Symbol) (ts : Symbols) (a : TypeName) (r : Symbols) → TypeNameAt ts a r
+    → Seq Bases (λ b. Seq Stars (λ n. Gives (record { base = b; stars = n }))) M ts a r
 type_name_back M ts a r (type_name d e) = (_, _, d, (_, _, e, gives))
 
 module _ (limit : ℕ) where
@@ -187,7 +191,8 @@ DeclaredFrom l = Seq Stars (λ n. Seq IdentAt (λ i. Declared l n i))
 declared_to : (M : May Symbol) (t : Symbol) (us : Symbols) (a : Declarator) (r : Symbols) → DeclaredFrom t.line M (t ∷ us) a r → DeclaratorAt (t ∷ us) a r
 declared_to M t us a r (n, m, d, (i, o, named, (ks, u, e, gives))) = declarator d e
 
-declared_back : (M : May Symbol) (ts : Symbols) (a : Declarator) (r : Symbols) → DeclaratorAt ts a r → (t : Symbol) × (us : Symbols) × (ts ≡ t ∷ us) × DeclaredFrom t.line M ts a r
+declared_back : (M : May Symbol) (ts : Symbols) (a : Declarator) (r : Symbols) → DeclaratorAt ts a r
+    → (t : Symbol) × (us : Symbols) × (ts ≡ t ∷ us) × DeclaredFrom t.line M ts a r
 declared_back M ts a r (declarator {s = s} {ts = us} d e) = (s, us, refl, (_, _, d, (_, _, named, (_, _, e, gives))))
 
 module _ (limit : ℕ) where
@@ -227,7 +232,8 @@ bracket_to : (b : Bool) (M : May Symbol) (ts : Symbols) (a : Brackets) (r : Symb
 bracket_to true M ts a r (q, m, marked, gives) = empty
 bracket_to false M ts a r (k, m, numbered, (q, n, marked, gives)) = sized
 
-bracket_back : (M : May Symbol) (ts : Symbols) (a : Brackets) (r : Symbols) → BracketAt M ts a r → BracketBy (is_mark Mark.CloseBracket (kind_of (next ts))) M ts a r
+bracket_back : (M : May Symbol) (ts : Symbols) (a : Brackets) (r : Symbols) → BracketAt M ts a r
+    → BracketBy (is_mark Mark.CloseBracket (kind_of (next ts))) M ts a r
 bracket_back M ts a r empty = (_, _, marked, gives)
 bracket_back M ts a r sized = (_, _, numbered, (_, _, marked, gives))
 
@@ -244,7 +250,8 @@ absent_before : (M : May Symbol) (ts : Symbols) → Fits NoBracket ts → Bracke
 absent_before M [] h = gives
 absent_before M (t ∷ ts) h = subst (λ z. BracketsBy z M (t ∷ ts) Brackets.Absent (t ∷ ts)) (sym h) gives
 
-brackets_back : (M : May Symbol) (ts : Symbols) (a : Brackets) (r : Symbols) → BracketsAt ts a r → Fits NoBracket r → BracketsBy (is_mark Mark.OpenBracket (kind_of (next ts))) M ts a r
+brackets_back : (M : May Symbol) (ts : Symbols) (a : Brackets) (r : Symbols) → BracketsAt ts a r → Fits NoBracket r
+    → BracketsBy (is_mark Mark.OpenBracket (kind_of (next ts))) M ts a r
 brackets_back M ts a r BracketsAt.absent h = absent_before M ts h
 brackets_back M ts a r BracketsAt.empty h = (_, _, marked, empty)
 brackets_back M ts a r BracketsAt.length h = (_, _, marked, sized)
@@ -363,7 +370,8 @@ AfterParams t = AfterParam t × Not (is_mark Mark.Comma) t
 abbrev ProtoLists : Form Symbol (List ProtoParam)
 ProtoLists M ts all r = ProtoParamsAt ts all r
 
-params_to_by : {M : May Symbol} {a : ProtoParam} {others : List ProtoParam} {ts m r : Symbols} → ProtoParamAt ts a m → Tail ProtoParams' M m others r → ProtoParamsAt ts (a ∷ others) r
+params_to_by : {M : May Symbol} {a : ProtoParam} {others : List ProtoParam} {ts m r : Symbols} → ProtoParamAt ts a m → Tail ProtoParams' M m others r
+    → ProtoParamsAt ts (a ∷ others) r
 params_to_by d no_tail = ProtoParamsAt.last d
 params_to_by d (tail e f) = ProtoParamsAt.more d (params_to_by e f)
 
@@ -410,7 +418,8 @@ params_sort (ProtoParamsAt.last (ProtoParamAt.param struct e f g)) = refl
 params_sort (ProtoParamsAt.more (ProtoParamAt.param int e f g) ds) = refl
 params_sort (ProtoParamsAt.more (ProtoParamAt.param struct e f g) ds) = refl
 
-list_back : (M : May Symbol) (ts : Symbols) (a : ProtoParams) (r : Symbols) → ProtoListAt ts a r → Fits (Only Mark.CloseParen) r → ListBy (list_start (kind_of (next ts))) M ts a r
+list_back : (M : May Symbol) (ts : Symbols) (a : ProtoParams) (r : Symbols) → ProtoListAt ts a r → Fits (Only Mark.CloseParen) r
+    → ListBy (list_start (kind_of (next ts))) M ts a r
 list_back M ts a r ProtoListAt.empty h = empty_before M ts h
 list_back M ts a r ProtoListAt.void h = (_, _, worded, gives)
 list_back M ts a r (ProtoListAt.list {ps = ps} d) h = subst (λ z. ListBy z M ts (ProtoParams.List ps) r) (sym (params_sort d)) (ps, r, d, gives)

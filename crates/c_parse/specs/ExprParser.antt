@@ -1,5 +1,5 @@
 -- Expressions, read from the left.
-use Rattle.std.specs.Prelude.{ℕ, zero, suc, Bool, true, false, if◌then◌else◌, nat_lt, is_some, List, [], ◌∷◌, Option, Some, None}
+use Rattle.std.specs.Prelude.{ℕ, zero, suc, Bool, true, false, if◌then◌else◌, is_some, List, [], ◌∷◌, Option, Some, None}
 use Rattle.dfi_base.specs.declared.numbers.Line.{Line}
 use Rattle.c_lex.specs.declared.token.Word.{Word}
 use Rattle.c_lex.specs.declared.token.Mark.{Mark}
@@ -15,12 +15,13 @@ use Rattle.c_parse.specs.contracts.operators.Tier as tier_type
 use Rattle.c_parse.specs.declared.subject.Subject.{Subject}
 use Rattle.c_parse.specs.declared.sorts.OperandStart.{OperandStart}
 use Rattle.c_parse.specs.declared.sorts.SuffixStart.{SuffixStart}
-use Rattle.c_parse.specs.Symbol.{Symbol, Symbols}
+use Rattle.c_parse.specs.Symbol.{Symbol}
 use Rattle.c_parse.specs.Operators.{unary_op, binary_op, tiers}
 use Rattle.c_parse.specs.Sorts.{operand_start, suffix_start, is_base, is_operand, is_suffix}
 use Rattle.c_parse.specs.Tokens.{P, next, kind_of, choose, located, want, is_mark, mark_at, word_at, ident_at, number_at, goes}
 use Rattle.c_parse.specs.TypeParser.{type_name, has, after_comma}
 use denote.Enum.Bare.{sameb}
+use Rattle.c_parse.specs.NestingLimit.{nesting_limit}
 
 abbrev pub expr_of : Subject → Expr
 expr_of (Subject.Prefixed a) = a
@@ -143,7 +144,12 @@ module _ (limit : ℕ) (inner : ℕ → P Expr) where
   operand_by l c OperandStart.Number = do k ← want number_at; postfix l c (e.Number l k)
   operand_by l c OperandStart.Null = want (word_at Word.Null) >> postfix l c (e.Null l)
   operand_by l c OperandStart.Name = do i ← want ident_at; named l c i
-  operand_by l c OperandStart.Sizeof = do want (word_at Word.Sizeof); want (mark_at Mark.OpenParen); t ← type_name; want (mark_at Mark.CloseParen); postfix l c (e.Sizeof l t)
+  operand_by l c OperandStart.Sizeof = do
+    want (word_at Word.Sizeof)
+    want (mark_at Mark.OpenParen)
+    t ← type_name
+    want (mark_at Mark.CloseParen)
+    postfix l c (e.Sizeof l t)
   operand_by l c OperandStart.Other = refuse unexpected
 
   unfoldable pub operand_from : ℕ → Line → P Subject
@@ -159,3 +165,7 @@ unary_of subject c = do v ← subject c; pure (expr_of v)
 unfoldable pub subject : ℕ → ℕ → ℕ → P Subject
 subject limit zero c = entering is_operand limit c (λ d. refuse deep)
 subject limit (suc fuel) c = entering is_operand limit c (operand limit (unary_of (subject limit fuel)))
+
+-- a `unary` of an expression that may still nest `fuel` times
+abbrev pub operands : ℕ → ℕ → P Expr
+operands fuel = unary_of (subject nesting_limit fuel)

@@ -1,3 +1,4 @@
+pub mod NestingLimit
 pub mod Symbol
 pub mod Nodes
 pub mod Types

@@ -9,16 +9,17 @@ use Rattle.c_parse.specs.Symbol.{Symbols}
 use Rattle.c_parse.specs.ExprParser.{subject}
 use Rattle.c_parse.specs.StmtParser.{stmt}
 use Rattle.c_parse.specs.Reads.{Reads}
+use Rattle.c_parse.specs.NestingLimit.{nesting_limit}
 
 pub record Nests (fuel : ℕ) (pre : Global → MutBor Symbols → ℕ → ℕ → Type 0)
     (post : Global → MutBor Symbols → ℕ → ℕ → Result Subject Failure → MutBor Symbols → Type 0) : Type 0 where
   pub callable : (alloc : Global) (old : MutBor Symbols) (c : ℕ) → pre alloc old fuel c
   pub reads : (alloc : Global) (old new : MutBor Symbols) (c : ℕ) (r : Result Subject Failure) → post alloc old fuel c r new
-      → Reads (subject 200 fuel c old.now) r new.now
+      → Reads (subject nesting_limit fuel c old.now) r new.now
 
 -- and of statements
 pub record NestsStmts (fuel : ℕ) (pre : Global → MutBor Symbols → ℕ → ℕ → Type 0)
     (post : Global → MutBor Symbols → ℕ → ℕ → Result Stmt Failure → MutBor Symbols → Type 0) : Type 0 where
   pub callable : (alloc : Global) (old : MutBor Symbols) (c : ℕ) → pre alloc old fuel c
   pub reads : (alloc : Global) (old new : MutBor Symbols) (c : ℕ) (r : Result Stmt Failure) → post alloc old fuel c r new
-      → Reads (stmt 200 fuel c old.now) r new.now
+      → Reads (stmt nesting_limit fuel c old.now) r new.now

@@ -6,7 +6,6 @@ use Rattle.c_ast.specs.declared.decl.TypeName.{TypeName}
 use Rattle.c_ast.specs.declared.expr.UnaryOp.{UnaryOp}
 use Rattle.c_ast.specs.declared.expr.BinaryOp.{BinaryOp}
 use Rattle.c_ast.specs.declared.expr.Expr.{Expr}
-use Rattle.c_ast.specs.declared.expr.Form.{Form}
 use Rattle.c_ast.specs.declared.expr.Form.TheVariants as form
 
 abbrev pub Binary : Line → Expr → BinaryOp → Expr → Expr

@@ -40,7 +40,8 @@ binary_op _ = None
 
 -- the levels, lowest first
 abbrev pub tiers : List Tier
-tiers = Tier.LogicalOr ∷ Tier.LogicalAnd ∷ Tier.BitwiseOr ∷ Tier.BitwiseXor ∷ Tier.BitwiseAnd ∷ Tier.Equality ∷ Tier.Relational ∷ Tier.Shift ∷ Tier.Additive ∷ Tier.Multiplicative ∷ []
+tiers = Tier.LogicalOr ∷ Tier.LogicalAnd ∷ Tier.BitwiseOr ∷ Tier.BitwiseXor ∷ Tier.BitwiseAnd
+    ∷ Tier.Equality ∷ Tier.Relational ∷ Tier.Shift ∷ Tier.Additive ∷ Tier.Multiplicative ∷ []
 
 abbrev pub assign_op : Mark → Option AssignOp
 assign_op Mark.Assign = Some AssignOp.Plain

@@ -1,26 +1,27 @@
 -- What the tokens of a source are: a program, or at fault at some token.
-use Rattle.std.specs.Prelude.{◌≡◌, ℕ, zero, suc, ◌-◌, List, [], ◌∷◌, length, Result, Ok, Err}
+use Rattle.std.specs.Prelude.{◌≡◌, ℕ, zero, suc, List, [], ◌∷◌, Result, Ok, Err}
 use Rattle.dfi_base.specs.declared.numbers.Line.{Line}
 use Rattle.c_lex.specs.IsLexed.{Lexed}
 use Rattle.c_ast.specs.declared.program.Item.{Item}
 use Rattle.c_ast.specs.Ast.{Ast}
 use Rattle.parse_laws.specs.FirstFault as first
 use Rattle.c_parse.specs.declared.fault.ParseFault.{ParseFault}
-use Rattle.c_parse.specs.Symbol.{Symbol, Symbols, symbols_of}
+use Rattle.c_parse.specs.Symbol.{Symbols, symbols_of}
 use Rattle.c_parse.specs.Programs.{ProgramAt}
+use Rattle.c_parse.specs.NestingLimit.{nesting_limit}
 
 -- the tokens of these items and no others, none of them nested deeper than 200
 abbrev pub IsProgram : Symbols → List Item → Type 0
-IsProgram ts items = first.IsParsed ProgramAt 200 ts items
+IsProgram ts items = first.IsParsed ProgramAt nesting_limit ts items
 
 -- No program goes on with the token at this place, which is the number of tokens where they end too soon. Some program goes on up to it, and
 -- no token before it is nested deeper than 200.
 abbrev pub IsUnexpected : Symbols → ℕ → Type 0
-IsUnexpected ts place = first.IsUnexpected ProgramAt 200 ts place
+IsUnexpected ts place = first.IsUnexpected ProgramAt nesting_limit ts place
 
 -- The token at this place is the first that is nested deeper than 200, in every program that goes on with it, and some program does.
 abbrev pub IsDeep : Symbols → ℕ → Type 0
-IsDeep ts place = first.IsDeep ProgramAt 200 ts place
+IsDeep ts place = first.IsDeep ProgramAt nesting_limit ts place
 
 -- the line of the token at this place, and the last line where they have ended
 abbrev pub line_at : Symbols → Line → ℕ → Line

@@ -41,7 +41,8 @@ module _ (may : May Symbol) where
     -- struct = "struct" ID "{" field { field } "}" ";"
     struct : {l k p q r : Line} {n : ℕ} {fields : List Field} {ts rest : Symbols}
         → FieldsAt ts fields (mark Mark.CloseBrace q ∷ mark Mark.Semicolon r ∷ rest)
-        → ItemAt (word Word.Struct l ∷ name n k ∷ mark Mark.OpenBrace p ∷ ts) (Item.Struct (record { line = l; tag = record { line = k; name = n }; fields = fields })) rest
+        → ItemAt (word Word.Struct l ∷ name n k ∷ mark Mark.OpenBrace p ∷ ts)
+        (Item.Struct (record { line = l; tag = record { line = k; name = n }; fields = fields })) rest
     decl : {d : Decl} {ts rest : Symbols} → DeclAt may 0 ts d rest → ItemAt ts (Item.Decl d) rest
     -- function = result ID "(" parameters ")" block
     function : {k p q : Line} {n : ℕ} {t : ResultType} {ps : Params} {b : Block Stmt} {ts m o rest : Symbols}

@@ -1,5 +1,5 @@
 -- A function of the code gives a parser's answer, unless memory fails.
-use Rattle.std.specs.Prelude.{◌≡◌, ℕ, Result, Ok, Err}
+use Rattle.std.specs.Prelude.{◌≡◌, Result, Ok, Err}
 use Rattle.c_parse.specs.declared.cursor.Failure.{Failure}
 use Rattle.parse_laws.specs.Parsing.{Answer, done, fault, unexpected, deep}
 use Rattle.c_parse.specs.Symbol.{Symbol, Symbols}

@@ -159,7 +159,11 @@ module _ (limit : ℕ) where
     more_block_items c found = many (goes is_open) (item c) found
 
     unfoldable pub block_body : ℕ → P (Block Stmt)
-    block_body c = do l ← want (mark_at Mark.OpenBrace); items ← more_block_items c []; q ← want (mark_at Mark.CloseBrace); pure (record { line = l; items = items; close = q })
+    block_body c = do
+      l ← want (mark_at Mark.OpenBrace)
+      items ← more_block_items c []
+      q ← want (mark_at Mark.CloseBrace)
+      pure (record { line = l; items = items; close = q })
 
     unfoldable pub block : ℕ → P (Block Stmt)
     block c = entering (is_mark Mark.OpenBrace) limit c block_body
@@ -195,7 +199,12 @@ module _ (limit : ℕ) where
     for_from c = do l ← want (word_at Word.For); want (mark_at Mark.OpenParen); start ← for_start c; for_rest c l start
 
     unfoldable pub par_from : ℕ → P Stmt
-    par_from c = do l ← want (word_at Word.Par); want (mark_at Mark.OpenBrace); branches ← more_branches c []; want (mark_at Mark.CloseBrace); pure (s.Par l branches)
+    par_from c = do
+      l ← want (word_at Word.Par)
+      want (mark_at Mark.OpenBrace)
+      branches ← more_branches c []
+      want (mark_at Mark.CloseBrace)
+      pure (s.Par l branches)
 
     unfoldable pub return_from : ℕ → P Stmt
     return_from c = do l ← want (word_at Word.Return); a ← optional_expr c; want (mark_at Mark.Semicolon); pure (s.Return l a)

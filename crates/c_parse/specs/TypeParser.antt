@@ -1,9 +1,8 @@
 -- Types and declarators, read from the left.
-use Rattle.std.specs.Prelude.{ℕ, zero, suc, ℤ, Bool, true, false, List, [], ◌∷◌, Option, Some, None}
+use Rattle.std.specs.Prelude.{ℕ, suc, ℤ, Bool, true, false, List, [], ◌∷◌, Option, Some, None}
 use Rattle.dfi_base.specs.declared.numbers.Line.{Line}
 use Rattle.c_lex.specs.declared.token.Word.{Word}
 use Rattle.c_lex.specs.declared.token.Mark.{Mark}
-use Rattle.c_lex.specs.declared.token.Kind.{Kind}
 use Rattle.c_ast.specs.declared.decl.Base.{Base}
 use Rattle.c_ast.specs.declared.decl.TypeName.{TypeName}
 use Rattle.c_ast.specs.declared.decl.Declarator.{Declarator}
@@ -11,7 +10,7 @@ use Rattle.c_ast.specs.declared.decl.Brackets.{Brackets}
 use Rattle.c_ast.specs.declared.decl.ProtoParam.{ProtoParam}
 use Rattle.c_ast.specs.declared.decl.ProtoParams.{ProtoParams}
 use Rattle.c_ast.specs.declared.ident.Ident.{Ident}
-use Rattle.parse_laws.specs.Parsing.{◌>>=◌, ◌>>◌, ◌<$>◌, pure, refuse, unexpected, repeat, many}
+use Rattle.parse_laws.specs.Parsing.{◌>>=◌, ◌>>◌, pure, refuse, unexpected, repeat, many}
 use Rattle.c_parse.specs.Symbol.{Symbol}
 use Rattle.c_parse.specs.Sorts.{base_word, list_start}
 use Rattle.c_parse.specs.declared.sorts.BaseWord.{BaseWord}

@@ -3,6 +3,7 @@
 ghost use Rattle.std.specs.Prelude.{◌≡◌, [], ◌∷◌};
 ghost use Rattle.c_parse.specs.StmtParser as spec;
 ghost use Rattle.c_parse.specs.Reads.{Reads};
+ghost use Rattle.c_parse.specs.NestingLimit.{nesting_limit};
 
 use crate::cursor::{Cursor, Failure};
 use crate::exprs::{Exprs, NESTING_LIMIT, subject};
@@ -15,14 +16,14 @@ use std::alloc::Global;
 
 #[tactic(auto, unfolding(crate::specs::StmtParser::operand_at))]
 pub fn operand_at(alloc: Global, cursor: &mut Cursor<'_>, counter: u32) -> Result<Subject, Failure>
-    ensures { Reads (spec.operand_at 200 counter cursor.old) result cursor.new }
+    ensures { Reads (spec.operand_at nesting_limit counter cursor.old) result cursor.new }
 {
     subject(alloc, cursor, NESTING_LIMIT, counter)
 }
 
 #[tactic(auto, unfolding(crate::specs::StmtParser::unary_at))]
 pub fn unary_at(alloc: Global, cursor: &mut Cursor<'_>, counter: u32) -> Result<Expr, Failure>
-    ensures { Reads (spec.unary_at 200 counter cursor.old) result cursor.new }
+    ensures { Reads (spec.unary_at nesting_limit counter cursor.old) result cursor.new }
 {
     let exprs = Exprs {
         alloc,
@@ -34,7 +35,7 @@ pub fn unary_at(alloc: Global, cursor: &mut Cursor<'_>, counter: u32) -> Result<
 
 #[tactic(auto, unfolding(crate::specs::StmtParser::expr_at))]
 pub fn expr_at(alloc: Global, cursor: &mut Cursor<'_>, counter: u32) -> Result<Expr, Failure>
-    ensures { Reads (spec.expr_at 200 counter cursor.old) result cursor.new }
+    ensures { Reads (spec.expr_at nesting_limit counter cursor.old) result cursor.new }
 {
     let exprs = Exprs {
         alloc,
@@ -52,7 +53,7 @@ pub fn valued(
     counter: u32,
     declarator: Declarator,
 ) -> Result<DeclItem, Failure>
-    ensures { Reads (spec.valued 200 counter declarator cursor.old) result cursor.new }
+    ensures { Reads (spec.valued nesting_limit counter declarator cursor.old) result cursor.new }
 {
     if !cursor.is_mark(Mark::Assign) {
         return Ok(DeclItem {
@@ -70,7 +71,7 @@ pub fn valued(
 
 #[tactic(auto, unfolding(crate::specs::StmtParser::decl_item))]
 fn decl_item(alloc: Global, cursor: &mut Cursor<'_>, counter: u32) -> Result<DeclItem, Failure>
-    ensures { Reads (spec.decl_item 200 counter cursor.old) result cursor.new }
+    ensures { Reads (spec.decl_item nesting_limit counter cursor.old) result cursor.new }
 {
     let declarator = declarator(alloc, cursor)?;
     valued(alloc, cursor, counter, declarator)
@@ -82,7 +83,7 @@ fn more_items(
     counter: u32,
     mut found: Items<DeclItem>,
 ) -> Result<Items<DeclItem>, Failure>
-    ensures { Reads (spec.more_items 200 counter found cursor.old) result cursor.new }
+    ensures { Reads (spec.more_items nesting_limit counter found cursor.old) result cursor.new }
 {
     let turns = cursor.left() + 1;
     for _turn in 0..turns {
@@ -105,7 +106,7 @@ pub fn decl_rest(
     base: Base,
     first: DeclItem,
 ) -> Result<Decl, Failure>
-    ensures { Reads (spec.decl_rest 200 counter base first cursor.old) result cursor.new }
+    ensures { Reads (spec.decl_rest nesting_limit counter base first cursor.old) result cursor.new }
 {
     let mut found = Items::new(alloc);
     found.push(first)?;
@@ -116,7 +117,7 @@ pub fn decl_rest(
 
 #[tactic(auto, unfolding(crate::specs::StmtParser::decl))]
 pub fn decl(alloc: Global, cursor: &mut Cursor<'_>, counter: u32) -> Result<Decl, Failure>
-    ensures { Reads (spec.decl 200 counter cursor.old) result cursor.new }
+    ensures { Reads (spec.decl nesting_limit counter cursor.old) result cursor.new }
 {
     let base = base(cursor)?;
     let first = decl_item(alloc, cursor, counter)?;

@@ -5,6 +5,7 @@ ghost use Rattle.parse_laws.specs.Parsing.{rising};
 ghost use Rattle.c_parse.specs.ExprParser as spec;
 ghost use Rattle.c_parse.specs.Reads.{Reads};
 ghost use Rattle.c_parse.specs.Nests.{Nests};
+ghost use Rattle.c_parse.specs.NestingLimit.{nesting_limit};
 
 use crate::cursor::{Cursor, Failure};
 use crate::nodes;
@@ -20,7 +21,7 @@ use dfi_base::Line;
 use sqlite_items::Items;
 use std::alloc::Global;
 
-/// How far nesting may go.
+/// How far nesting may go: `nesting_limit` of the definitions.
 pub const NESTING_LIMIT: u32 = 200;
 
 /// The forms of expressions, over a parser of the operands in them, which may still nest `fuel` times.
@@ -34,7 +35,7 @@ pub struct Exprs<F> {
 impl<F: Fn(Global, &mut Cursor<'_>, u32, u32) -> Result<Subject, Failure>> Exprs<F> {
     pub fn unary(&self, cursor: &mut Cursor<'_>, counter: u32) -> Result<Expr, Failure>
         requires { Nests self.now.fuel (F.pre self.now.subject) (F.post self.now.subject) }
-        ensures { Reads (spec.unary_of (spec.subject 200 self.now.fuel) counter cursor.old) result cursor.new }
+        ensures { Reads (spec.operands self.now.fuel counter cursor.old) result cursor.new }
     {
         let subject = (self.subject)(self.alloc, cursor, self.fuel, counter)?;
         Ok(subject.into_expr())
@@ -52,7 +53,7 @@ impl<F: Fn(Global, &mut Cursor<'_>, u32, u32) -> Result<Subject, Failure>> Exprs
         counter: u32,
     ) -> Result<(Expr, u32), Failure>
         requires { Nests self.now.fuel (F.pre self.now.subject) (F.post self.now.subject) }
-        ensures { Reads (spec.right tier (spec.level 200 (spec.unary_of (spec.subject 200 self.now.fuel)) lower.now) line left counter cursor.old) result cursor.new }
+        ensures { Reads (spec.right tier (spec.level nesting_limit (spec.operands self.now.fuel) lower.now) line left counter cursor.old) result cursor.new }
     {
         let op = cursor.binary(tier)?;
         let (right, counter) = self.level(cursor, lower, counter)?;
@@ -70,7 +71,7 @@ impl<F: Fn(Global, &mut Cursor<'_>, u32, u32) -> Result<Subject, Failure>> Exprs
         found: (Expr, u32),
     ) -> Result<(Expr, u32), Failure>
         requires { Nests self.now.fuel (F.pre self.now.subject) (F.post self.now.subject) }
-        ensures { Reads (rising 200 found.1 (spec.right tier (spec.level 200 (spec.unary_of (spec.subject 200 self.now.fuel)) lower.now) line found.0) cursor.old) result cursor.new }
+        ensures { Reads (rising nesting_limit found.1 (spec.right tier (spec.level nesting_limit (spec.operands self.now.fuel) lower.now) line found.0) cursor.old) result cursor.new }
     {
         let (left, counter) = found;
         if counter >= NESTING_LIMIT {
@@ -89,7 +90,7 @@ impl<F: Fn(Global, &mut Cursor<'_>, u32, u32) -> Result<Subject, Failure>> Exprs
         mut found: (Expr, u32),
     ) -> Result<(Expr, u32), Failure>
         requires { Nests self.now.fuel (F.pre self.now.subject) (F.post self.now.subject) }
-        ensures { Reads (spec.operators tier (spec.level 200 (spec.unary_of (spec.subject 200 self.now.fuel)) lower.now) line 200 found cursor.old) result cursor.new }
+        ensures { Reads (spec.operators tier (spec.level nesting_limit (spec.operands self.now.fuel) lower.now) line nesting_limit found cursor.old) result cursor.new }
     {
         let turns = cursor.left() + 1;
         for _turn in 0..turns {
@@ -111,7 +112,7 @@ impl<F: Fn(Global, &mut Cursor<'_>, u32, u32) -> Result<Subject, Failure>> Exprs
         counter: u32,
     ) -> Result<(Expr, u32), Failure>
         requires { Nests self.now.fuel (F.pre self.now.subject) (F.post self.now.subject) }
-        ensures { Reads (spec.chain 200 tier (spec.level 200 (spec.unary_of (spec.subject 200 self.now.fuel)) lower.now) counter cursor.old) result cursor.new }
+        ensures { Reads (spec.chain nesting_limit tier (spec.level nesting_limit (spec.operands self.now.fuel) lower.now) counter cursor.old) result cursor.new }
     {
         match cursor.line() {
             Some(line) => {
@@ -132,7 +133,7 @@ impl<F: Fn(Global, &mut Cursor<'_>, u32, u32) -> Result<Subject, Failure>> Exprs
         counter: u32,
     ) -> Result<(Expr, u32), Failure>
         requires { Nests self.now.fuel (F.pre self.now.subject) (F.post self.now.subject) }
-        ensures { Reads (spec.level 200 (spec.unary_of (spec.subject 200 self.now.fuel)) tiers.now counter cursor.old) result cursor.new }
+        ensures { Reads (spec.level nesting_limit (spec.operands self.now.fuel) tiers.now counter cursor.old) result cursor.new }
     {
         match tiers {
             [] => {
@@ -146,7 +147,7 @@ impl<F: Fn(Global, &mut Cursor<'_>, u32, u32) -> Result<Subject, Failure>> Exprs
     #[tactic(auto, unfolding(crate::specs::ExprParser::expr))]
     pub fn expr(&self, cursor: &mut Cursor<'_>, counter: u32) -> Result<Expr, Failure>
         requires { Nests self.now.fuel (F.pre self.now.subject) (F.post self.now.subject) }
-        ensures { Reads (spec.expr 200 (spec.unary_of (spec.subject 200 self.now.fuel)) counter cursor.old) result cursor.new }
+        ensures { Reads (spec.expr nesting_limit (spec.operands self.now.fuel) counter cursor.old) result cursor.new }
     {
         let (expr, _) = self.level(cursor, &TIERS, counter)?;
         Ok(expr)
@@ -159,7 +160,7 @@ impl<F: Fn(Global, &mut Cursor<'_>, u32, u32) -> Result<Subject, Failure>> Exprs
         counter: u32,
     ) -> Result<Items<Expr>, Failure>
         requires { Nests self.now.fuel (F.pre self.now.subject) (F.post self.now.subject) }
-        ensures { Reads (spec.more_arguments 200 (spec.unary_of (spec.subject 200 self.now.fuel)) counter found cursor.old) result cursor.new }
+        ensures { Reads (spec.more_arguments nesting_limit (spec.operands self.now.fuel) counter found cursor.old) result cursor.new }
     {
         let turns = cursor.left() + 1;
         for _turn in 0..turns {
@@ -177,7 +178,7 @@ impl<F: Fn(Global, &mut Cursor<'_>, u32, u32) -> Result<Subject, Failure>> Exprs
     #[tactic(auto, unfolding(crate::specs::ExprParser::arguments))]
     fn arguments(&self, cursor: &mut Cursor<'_>, counter: u32) -> Result<Items<Expr>, Failure>
         requires { Nests self.now.fuel (F.pre self.now.subject) (F.post self.now.subject) }
-        ensures { Reads (spec.arguments 200 (spec.unary_of (spec.subject 200 self.now.fuel)) counter cursor.old) result cursor.new }
+        ensures { Reads (spec.arguments nesting_limit (spec.operands self.now.fuel) counter cursor.old) result cursor.new }
     {
         if cursor.is_mark(Mark::CloseParen) {
             cursor.mark(Mark::CloseParen)?;
@@ -195,7 +196,7 @@ impl<F: Fn(Global, &mut Cursor<'_>, u32, u32) -> Result<Subject, Failure>> Exprs
         counter: u32,
     ) -> Result<Items<Expr>, Failure>
         requires { Nests self.now.fuel (F.pre self.now.subject) (F.post self.now.subject) }
-        ensures { Reads (spec.arguments_rest 200 (spec.unary_of (spec.subject 200 self.now.fuel)) counter first cursor.old) result cursor.new }
+        ensures { Reads (spec.arguments_rest nesting_limit (spec.operands self.now.fuel) counter first cursor.old) result cursor.new }
     {
         let mut found = Items::new(self.alloc);
         found.push(first)?;
@@ -213,7 +214,7 @@ impl<F: Fn(Global, &mut Cursor<'_>, u32, u32) -> Result<Subject, Failure>> Exprs
         counter: u32,
     ) -> Result<(Expr, u32), Failure>
         requires { Nests self.now.fuel (F.pre self.now.subject) (F.post self.now.subject) }
-        ensures { Reads (spec.suffix 200 (spec.unary_of (spec.subject 200 self.now.fuel)) line operand counter cursor.old) result cursor.new }
+        ensures { Reads (spec.suffix nesting_limit (spec.operands self.now.fuel) line operand counter cursor.old) result cursor.new }
     {
         match suffix_start(cursor.kind()) {
             SuffixStart::Index => {
@@ -246,7 +247,7 @@ impl<F: Fn(Global, &mut Cursor<'_>, u32, u32) -> Result<Subject, Failure>> Exprs
         found: (Expr, u32),
     ) -> Result<(Expr, u32), Failure>
         requires { Nests self.now.fuel (F.pre self.now.subject) (F.post self.now.subject) }
-        ensures { Reads (spec.suffix_after 200 (spec.unary_of (spec.subject 200 self.now.fuel)) line found cursor.old) result cursor.new }
+        ensures { Reads (spec.suffix_after nesting_limit (spec.operands self.now.fuel) line found cursor.old) result cursor.new }
     {
         let (operand, counter) = found;
         if counter >= NESTING_LIMIT {
@@ -262,7 +263,7 @@ impl<F: Fn(Global, &mut Cursor<'_>, u32, u32) -> Result<Subject, Failure>> Exprs
         mut found: (Expr, u32),
     ) -> Result<(Expr, u32), Failure>
         requires { Nests self.now.fuel (F.pre self.now.subject) (F.post self.now.subject) }
-        ensures { Reads (spec.suffixes 200 (spec.unary_of (spec.subject 200 self.now.fuel)) line found cursor.old) result cursor.new }
+        ensures { Reads (spec.suffixes nesting_limit (spec.operands self.now.fuel) line found cursor.old) result cursor.new }
     {
         let turns = cursor.left() + 1;
         for _turn in 0..turns {
@@ -283,7 +284,7 @@ impl<F: Fn(Global, &mut Cursor<'_>, u32, u32) -> Result<Subject, Failure>> Exprs
         operand: Expr,
     ) -> Result<Subject, Failure>
         requires { Nests self.now.fuel (F.pre self.now.subject) (F.post self.now.subject) }
-        ensures { Reads (spec.postfix 200 (spec.unary_of (spec.subject 200 self.now.fuel)) line counter operand cursor.old) result cursor.new }
+        ensures { Reads (spec.postfix nesting_limit (spec.operands self.now.fuel) line counter operand cursor.old) result cursor.new }
     {
         let (whole, _) = self.suffixes(cursor, line, (operand, counter))?;
         Ok(Subject::Postfix(whole))
@@ -299,7 +300,7 @@ impl<F: Fn(Global, &mut Cursor<'_>, u32, u32) -> Result<Subject, Failure>> Exprs
         function: Ident,
     ) -> Result<Subject, Failure>
         requires { Nests self.now.fuel (F.pre self.now.subject) (F.post self.now.subject) }
-        ensures { Reads (spec.called 200 (spec.unary_of (spec.subject 200 self.now.fuel)) line counter function cursor.old) result cursor.new }
+        ensures { Reads (spec.called nesting_limit (spec.operands self.now.fuel) line counter function cursor.old) result cursor.new }
     {
         let arguments = self.arguments(cursor, counter)?;
         let call = Subject::Call(function, arguments);
@@ -319,7 +320,7 @@ impl<F: Fn(Global, &mut Cursor<'_>, u32, u32) -> Result<Subject, Failure>> Exprs
         name: Ident,
     ) -> Result<Subject, Failure>
         requires { Nests self.now.fuel (F.pre self.now.subject) (F.post self.now.subject) }
-        ensures { Reads (spec.named 200 (spec.unary_of (spec.subject 200 self.now.fuel)) line counter name cursor.old) result cursor.new }
+        ensures { Reads (spec.named nesting_limit (spec.operands self.now.fuel) line counter name cursor.old) result cursor.new }
     {
         if cursor.is_mark(Mark::OpenParen) {
             cursor.mark(Mark::OpenParen)?;
@@ -336,7 +337,7 @@ impl<F: Fn(Global, &mut Cursor<'_>, u32, u32) -> Result<Subject, Failure>> Exprs
     #[tactic(auto, unfolding(crate::specs::ExprParser::opened))]
     fn opened(&self, cursor: &mut Cursor<'_>, line: Line, counter: u32) -> Result<Subject, Failure>
         requires { Nests self.now.fuel (F.pre self.now.subject) (F.post self.now.subject) }
-        ensures { Reads (spec.opened 200 (spec.unary_of (spec.subject 200 self.now.fuel)) line counter cursor.old) result cursor.new }
+        ensures { Reads (spec.opened nesting_limit (spec.operands self.now.fuel) line counter cursor.old) result cursor.new }
     {
         if is_base(cursor.kind()) {
             let to = type_name(cursor)?;
@@ -359,7 +360,7 @@ impl<F: Fn(Global, &mut Cursor<'_>, u32, u32) -> Result<Subject, Failure>> Exprs
         line: Line,
     ) -> Result<Subject, Failure>
         requires { Nests self.now.fuel (F.pre self.now.subject) (F.post self.now.subject) }
-        ensures { Reads (spec.operand_from 200 (spec.unary_of (spec.subject 200 self.now.fuel)) counter line cursor.old) result cursor.new }
+        ensures { Reads (spec.operand_from nesting_limit (spec.operands self.now.fuel) counter line cursor.old) result cursor.new }
     {
         match operand_start(cursor.kind()) {
             OperandStart::Prefix => {
@@ -400,7 +401,7 @@ impl<F: Fn(Global, &mut Cursor<'_>, u32, u32) -> Result<Subject, Failure>> Exprs
     #[tactic(auto, unfolding(crate::specs::ExprParser::operand))]
     fn operand(&self, cursor: &mut Cursor<'_>, counter: u32) -> Result<Subject, Failure>
         requires { Nests self.now.fuel (F.pre self.now.subject) (F.post self.now.subject) }
-        ensures { Reads (spec.operand 200 (spec.unary_of (spec.subject 200 self.now.fuel)) counter cursor.old) result cursor.new }
+        ensures { Reads (spec.operand nesting_limit (spec.operands self.now.fuel) counter cursor.old) result cursor.new }
     {
         match cursor.line() {
             Some(line) => self.operand_from(cursor, counter, line),
@@ -417,7 +418,7 @@ pub fn subject(
     fuel: u32,
     counter: u32,
 ) -> Result<Subject, Failure>
-    ensures { Reads (spec.subject 200 fuel counter cursor.old) result cursor.new }
+    ensures { Reads (spec.subject nesting_limit fuel counter cursor.old) result cursor.new }
 {
     if !is_operand(cursor.kind()) {
         return Err(Failure::Unexpected(cursor.left()));

@@ -7,10 +7,11 @@ ghost use Rattle.parse_laws.specs.FirstFault.{Continues};
 ghost use Rattle.parse_laws.specs.Tells.{HasOneAnswer};
 ghost use Rattle.c_parse.specs.Symbol.{Symbols};
 ghost use Rattle.c_parse.specs.Programs.{ProgramAt};
+ghost use Rattle.c_parse.specs.NestingLimit.{nesting_limit};
 
 /// Tokens are a program or have a first fault, and not two of these.
 pub fn one_answer()
-    ensures { (ts : Symbols) → HasOneAnswer ProgramAt 200 ts }
+    ensures { (ts : Symbols) → HasOneAnswer ProgramAt nesting_limit ts }
 {}
 
 /// However deep it is, a program has no two trees.

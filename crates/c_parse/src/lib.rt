@@ -19,3 +19,6 @@ mod types;
 pub use fault::ParseFault;
 pub use law::{one_answer, one_tree, prefix_continues};
 pub use parser::parse;
+
+#[cfg(test)]
+mod tests;

@@ -3,6 +3,7 @@
 ghost use Rattle.std.specs.Prelude.{◌≡◌, [], ◌∷◌, IfOk};
 ghost use Rattle.c_parse.specs.ProgramParser as spec;
 ghost use Rattle.c_parse.specs.Reads.{Reads};
+ghost use Rattle.c_parse.specs.NestingLimit.{nesting_limit};
 
 use crate::cursor::{Cursor, Failure};
 use crate::decls::{decl_rest, valued};
@@ -91,7 +92,7 @@ fn struct_rest(
 
 #[tactic(auto, unfolding(crate::specs::ProgramParser::body))]
 fn body(alloc: Global, cursor: &mut Cursor<'_>) -> Result<Block<Stmt>, Failure>
-    ensures { Reads (spec.body 200 cursor.old) result cursor.new }
+    ensures { Reads (spec.body nesting_limit cursor.old) result cursor.new }
 {
     let stmts = Stmts {
         alloc,
@@ -142,7 +143,7 @@ fn signature_end(
     name: Ident,
     params: ProtoParams,
 ) -> Result<Item, Failure>
-    ensures { Reads (spec.signature_end 200 of name params cursor.old) result cursor.new }
+    ensures { Reads (spec.signature_end nesting_limit of name params cursor.old) result cursor.new }
 {
     if !cursor.is_mark(Mark::OpenBrace) {
         cursor.mark(Mark::Semicolon)?;
@@ -173,7 +174,7 @@ fn signature(
     of: ResultType,
     name: Ident,
 ) -> Result<Item, Failure>
-    ensures { Reads (spec.signature 200 of name cursor.old) result cursor.new }
+    ensures { Reads (spec.signature nesting_limit of name cursor.old) result cursor.new }
 {
     cursor.mark(Mark::OpenParen)?;
     let params = parameter_list(alloc, cursor)?;
@@ -191,7 +192,7 @@ fn global_end(
     stars: u32,
     name: Ident,
 ) -> Result<Item, Failure>
-    ensures { Reads (spec.global_end 200 line base stars name cursor.old) result cursor.new }
+    ensures { Reads (spec.global_end nesting_limit line base stars name cursor.old) result cursor.new }
 {
     if cursor.is_mark(Mark::OpenParen) {
         return signature(alloc, cursor, ResultType::Type { base, stars }, name);
@@ -209,7 +210,7 @@ fn global_from(
     base: Base,
     line: Line,
 ) -> Result<Item, Failure>
-    ensures { Reads (spec.global_from 200 base line cursor.old) result cursor.new }
+    ensures { Reads (spec.global_from nesting_limit base line cursor.old) result cursor.new }
 {
     let stars = stars(cursor)?;
     let name = cursor.ident()?;
@@ -219,7 +220,7 @@ fn global_from(
 /// Behind the base.
 #[tactic(auto, unfolding(crate::specs::ProgramParser::global))]
 fn global(alloc: Global, cursor: &mut Cursor<'_>, base: Base) -> Result<Item, Failure>
-    ensures { Reads (spec.global 200 base cursor.old) result cursor.new }
+    ensures { Reads (spec.global nesting_limit base cursor.old) result cursor.new }
 {
     match cursor.line() {
         Some(line) => global_from(alloc, cursor, base, line),
@@ -230,7 +231,7 @@ fn global(alloc: Global, cursor: &mut Cursor<'_>, base: Base) -> Result<Item, Fa
 /// Behind the tag.
 #[tactic(auto, unfolding(crate::specs::ProgramParser::tagged))]
 fn tagged(alloc: Global, cursor: &mut Cursor<'_>, line: Line, tag: Ident) -> Result<Item, Failure>
-    ensures { Reads (spec.tagged 200 line tag cursor.old) result cursor.new }
+    ensures { Reads (spec.tagged nesting_limit line tag cursor.old) result cursor.new }
 {
     if cursor.is_mark(Mark::OpenBrace) {
         return struct_rest(alloc, cursor, line, tag);
@@ -240,7 +241,7 @@ fn tagged(alloc: Global, cursor: &mut Cursor<'_>, line: Line, tag: Ident) -> Res
 
 #[tactic(auto, unfolding(crate::specs::ProgramParser::item))]
 fn item(alloc: Global, cursor: &mut Cursor<'_>) -> Result<Item, Failure>
-    ensures { Reads (spec.item 200 cursor.old) result cursor.new }
+    ensures { Reads (spec.item nesting_limit cursor.old) result cursor.new }
 {
     match item_start(cursor.kind()) {
         ItemStart::Int => {
@@ -266,7 +267,7 @@ fn items(
     cursor: &mut Cursor<'_>,
     mut found: Items<Item>,
 ) -> Result<Items<Item>, Failure>
-    ensures { Reads (spec.more_items 200 found cursor.old) result cursor.new }
+    ensures { Reads (spec.more_items nesting_limit found cursor.old) result cursor.new }
 {
     let turns = cursor.left() + 1;
     for _turn in 0..turns {
@@ -282,7 +283,7 @@ fn items(
 /// Every token.
 #[tactic(auto, unfolding(crate::specs::ProgramParser::program))]
 pub fn program(alloc: Global, cursor: &mut Cursor<'_>) -> Result<Items<Item>, Failure>
-    ensures { Reads (spec.program 200 cursor.old) result cursor.new }
+    ensures { Reads (spec.program nesting_limit cursor.old) result cursor.new }
 {
     let items = items(alloc, cursor, Items::new(alloc))?;
     cursor.finish()?;

@@ -4,6 +4,7 @@ ghost use Rattle.std.specs.Prelude.{◌≡◌, [], ◌∷◌};
 ghost use Rattle.c_parse.specs.StmtParser as spec;
 ghost use Rattle.c_parse.specs.Reads.{Reads};
 ghost use Rattle.c_parse.specs.declared.sorts.SubjectEnd.{SubjectEnd};
+ghost use Rattle.c_parse.specs.NestingLimit.{nesting_limit};
 
 use crate::cursor::{Cursor, Failure};
 use crate::decls::{decl, expr_at, operand_at, unary_at};
@@ -15,7 +16,7 @@ use dfi_base::Line;
 use std::alloc::Global;
 
 fn increment(cursor: &mut Cursor<'_>, line: Line, subject: Subject) -> Result<Simple, Failure>
-    ensures { Reads (spec.increment_by 200 line subject cursor.old) result cursor.new }
+    ensures { Reads (spec.increment_by nesting_limit line subject cursor.old) result cursor.new }
 {
     match subject {
         Subject::Prefixed(_) => Err(Failure::Unexpected(cursor.left())),
@@ -28,7 +29,7 @@ fn increment(cursor: &mut Cursor<'_>, line: Line, subject: Subject) -> Result<Si
 }
 
 fn decrement(cursor: &mut Cursor<'_>, line: Line, subject: Subject) -> Result<Simple, Failure>
-    ensures { Reads (spec.decrement_by 200 line subject cursor.old) result cursor.new }
+    ensures { Reads (spec.decrement_by nesting_limit line subject cursor.old) result cursor.new }
 {
     match subject {
         Subject::Prefixed(_) => Err(Failure::Unexpected(cursor.left())),
@@ -47,7 +48,7 @@ fn assign(
     line: Line,
     subject: Subject,
 ) -> Result<Simple, Failure>
-    ensures { Reads (spec.simple_by 200 line counter subject SubjectEnd.Assign cursor.old) result cursor.new }
+    ensures { Reads (spec.simple_by nesting_limit line counter subject SubjectEnd.Assign cursor.old) result cursor.new }
 {
     let op = cursor.assign()?;
     let value = expr_at(alloc, cursor, counter)?;
@@ -61,7 +62,7 @@ fn assign(
 }
 
 fn call(cursor: &mut Cursor<'_>, subject: Subject) -> Result<Simple, Failure>
-    ensures { Reads (spec.call_by 200 subject cursor.old) result cursor.new }
+    ensures { Reads (spec.call_by nesting_limit subject cursor.old) result cursor.new }
 {
     match subject {
         Subject::Call(function, arguments) => Ok(Simple::Call {
@@ -81,7 +82,7 @@ fn simple_end(
     line: Line,
     subject: Subject,
 ) -> Result<Simple, Failure>
-    ensures { Reads (spec.simple_end 200 line counter subject cursor.old) result cursor.new }
+    ensures { Reads (spec.simple_end nesting_limit line counter subject cursor.old) result cursor.new }
 {
     match subject_end(cursor.kind()) {
         SubjectEnd::Assign => assign(alloc, cursor, counter, line, subject),
@@ -98,7 +99,7 @@ fn simple_from(
     counter: u32,
     line: Line,
 ) -> Result<Simple, Failure>
-    ensures { Reads (spec.simple_from 200 counter line cursor.old) result cursor.new }
+    ensures { Reads (spec.simple_from nesting_limit counter line cursor.old) result cursor.new }
 {
     match subject_end(cursor.kind()) {
         SubjectEnd::Increment => {
@@ -121,7 +122,7 @@ fn simple_from(
 
 #[tactic(auto, unfolding(crate::specs::StmtParser::simple))]
 pub fn simple(alloc: Global, cursor: &mut Cursor<'_>, counter: u32) -> Result<Simple, Failure>
-    ensures { Reads (spec.simple 200 counter cursor.old) result cursor.new }
+    ensures { Reads (spec.simple nesting_limit counter cursor.old) result cursor.new }
 {
     match cursor.line() {
         Some(line) => simple_from(alloc, cursor, counter, line),
@@ -136,7 +137,7 @@ pub fn optional_expr(
     cursor: &mut Cursor<'_>,
     counter: u32,
 ) -> Result<Option<Expr>, Failure>
-    ensures { Reads (spec.optional_expr 200 counter cursor.old) result cursor.new }
+    ensures { Reads (spec.optional_expr nesting_limit counter cursor.old) result cursor.new }
 {
     if is_end(Mark::Semicolon, cursor.kind()) {
         return Ok(None);
@@ -153,7 +154,7 @@ pub fn optional_simple(
     mark: Mark,
     counter: u32,
 ) -> Result<Option<Simple>, Failure>
-    ensures { Reads (spec.optional_simple 200 mark counter cursor.old) result cursor.new }
+    ensures { Reads (spec.optional_simple nesting_limit mark counter cursor.old) result cursor.new }
 {
     if is_end(mark, cursor.kind()) {
         return Ok(None);
@@ -164,7 +165,7 @@ pub fn optional_simple(
 
 #[tactic(auto, unfolding(crate::specs::StmtParser::for_start))]
 pub fn for_start(alloc: Global, cursor: &mut Cursor<'_>, counter: u32) -> Result<ForStart, Failure>
-    ensures { Reads (spec.for_start 200 counter cursor.old) result cursor.new }
+    ensures { Reads (spec.for_start nesting_limit counter cursor.old) result cursor.new }
 {
     if is_base(cursor.kind()) {
         let decl = decl(alloc, cursor, counter)?;
@@ -178,7 +179,7 @@ pub fn for_start(alloc: Global, cursor: &mut Cursor<'_>, counter: u32) -> Result
 /// In parentheses.
 #[tactic(auto, unfolding(crate::specs::StmtParser::condition))]
 pub fn condition(alloc: Global, cursor: &mut Cursor<'_>, counter: u32) -> Result<Expr, Failure>
-    ensures { Reads (spec.condition 200 counter cursor.old) result cursor.new }
+    ensures { Reads (spec.condition nesting_limit counter cursor.old) result cursor.new }
 {
     cursor.mark(Mark::OpenParen)?;
     let condition = expr_at(alloc, cursor, counter)?;

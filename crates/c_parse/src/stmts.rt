@@ -4,6 +4,7 @@ ghost use Rattle.std.specs.Prelude.{◌≡◌, [], ◌∷◌};
 ghost use Rattle.c_parse.specs.StmtParser as spec;
 ghost use Rattle.c_parse.specs.Reads.{Reads};
 ghost use Rattle.c_parse.specs.Nests.{NestsStmts};
+ghost use Rattle.c_parse.specs.NestingLimit.{nesting_limit};
 
 use crate::cursor::{Cursor, Failure};
 use crate::decls::decl;
@@ -27,7 +28,7 @@ pub struct Stmts<F> {
 impl<F: Fn(Global, &mut Cursor<'_>, u32, u32) -> Result<Stmt, Failure>> Stmts<F> {
     fn inner(&self, cursor: &mut Cursor<'_>, counter: u32) -> Result<Stmt, Failure>
         requires { NestsStmts self.now.fuel (F.pre self.now.stmt) (F.post self.now.stmt) }
-        ensures { Reads (spec.stmt 200 self.now.fuel counter cursor.old) result cursor.new }
+        ensures { Reads (spec.stmt nesting_limit self.now.fuel counter cursor.old) result cursor.new }
     {
         (self.stmt)(self.alloc, cursor, self.fuel, counter)
     }
@@ -35,7 +36,7 @@ impl<F: Fn(Global, &mut Cursor<'_>, u32, u32) -> Result<Stmt, Failure>> Stmts<F>
     #[tactic(auto, unfolding(crate::specs::StmtParser::item))]
     fn item(&self, cursor: &mut Cursor<'_>, counter: u32) -> Result<BlockItem<Stmt>, Failure>
         requires { NestsStmts self.now.fuel (F.pre self.now.stmt) (F.post self.now.stmt) }
-        ensures { Reads (spec.item 200 (spec.stmt 200 self.now.fuel) counter cursor.old) result cursor.new }
+        ensures { Reads (spec.item nesting_limit (spec.stmt nesting_limit self.now.fuel) counter cursor.old) result cursor.new }
     {
         if is_base(cursor.kind()) {
             let decl = decl(self.alloc, cursor, counter)?;
@@ -52,7 +53,7 @@ impl<F: Fn(Global, &mut Cursor<'_>, u32, u32) -> Result<Stmt, Failure>> Stmts<F>
         mut found: Items<BlockItem<Stmt>>,
     ) -> Result<Items<BlockItem<Stmt>>, Failure>
         requires { NestsStmts self.now.fuel (F.pre self.now.stmt) (F.post self.now.stmt) }
-        ensures { Reads (spec.more_block_items 200 (spec.stmt 200 self.now.fuel) counter found cursor.old) result cursor.new }
+        ensures { Reads (spec.more_block_items nesting_limit (spec.stmt nesting_limit self.now.fuel) counter found cursor.old) result cursor.new }
     {
         let turns = cursor.left() + 1;
         for _turn in 0..turns {
@@ -68,7 +69,7 @@ impl<F: Fn(Global, &mut Cursor<'_>, u32, u32) -> Result<Stmt, Failure>> Stmts<F>
     #[tactic(auto, unfolding(crate::specs::StmtParser::block_body))]
     fn block_body(&self, cursor: &mut Cursor<'_>, counter: u32) -> Result<Block<Stmt>, Failure>
         requires { NestsStmts self.now.fuel (F.pre self.now.stmt) (F.post self.now.stmt) }
-        ensures { Reads (spec.block_body 200 (spec.stmt 200 self.now.fuel) counter cursor.old) result cursor.new }
+        ensures { Reads (spec.block_body nesting_limit (spec.stmt nesting_limit self.now.fuel) counter cursor.old) result cursor.new }
     {
         let line = cursor.mark(Mark::OpenBrace)?;
         let items = self.more_block_items(cursor, counter, Items::new(self.alloc))?;
@@ -79,7 +80,7 @@ impl<F: Fn(Global, &mut Cursor<'_>, u32, u32) -> Result<Stmt, Failure>> Stmts<F>
     #[tactic(auto, unfolding(crate::specs::StmtParser::block))]
     pub fn block(&self, cursor: &mut Cursor<'_>, counter: u32) -> Result<Block<Stmt>, Failure>
         requires { NestsStmts self.now.fuel (F.pre self.now.stmt) (F.post self.now.stmt) }
-        ensures { Reads (spec.block 200 (spec.stmt 200 self.now.fuel) counter cursor.old) result cursor.new }
+        ensures { Reads (spec.block nesting_limit (spec.stmt nesting_limit self.now.fuel) counter cursor.old) result cursor.new }
     {
         if !cursor.is_mark(Mark::OpenBrace) {
             return Err(Failure::Unexpected(cursor.left()));
@@ -97,7 +98,7 @@ impl<F: Fn(Global, &mut Cursor<'_>, u32, u32) -> Result<Stmt, Failure>> Stmts<F>
         mut found: Items<Block<Stmt>>,
     ) -> Result<Items<Block<Stmt>>, Failure>
         requires { NestsStmts self.now.fuel (F.pre self.now.stmt) (F.post self.now.stmt) }
-        ensures { Reads (spec.more_branches 200 (spec.stmt 200 self.now.fuel) counter found cursor.old) result cursor.new }
+        ensures { Reads (spec.more_branches nesting_limit (spec.stmt nesting_limit self.now.fuel) counter found cursor.old) result cursor.new }
     {
         let turns = cursor.left() + 1;
         for _turn in 0..turns {
@@ -121,7 +122,7 @@ impl<F: Fn(Global, &mut Cursor<'_>, u32, u32) -> Result<Stmt, Failure>> Stmts<F>
         first: Stmt,
     ) -> Result<Stmt, Failure>
         requires { NestsStmts self.now.fuel (F.pre self.now.stmt) (F.post self.now.stmt) }
-        ensures { Reads (spec.otherwise 200 (spec.stmt 200 self.now.fuel) counter line condition first cursor.old) result cursor.new }
+        ensures { Reads (spec.otherwise nesting_limit (spec.stmt nesting_limit self.now.fuel) counter line condition first cursor.old) result cursor.new }
     {
         let first = Boxed::new(self.alloc, first)?;
         if !cursor.is_word(Word::Else) {
@@ -146,7 +147,7 @@ impl<F: Fn(Global, &mut Cursor<'_>, u32, u32) -> Result<Stmt, Failure>> Stmts<F>
     #[tactic(auto, unfolding(crate::specs::StmtParser::if_from))]
     fn if_from(&self, cursor: &mut Cursor<'_>, counter: u32) -> Result<Stmt, Failure>
         requires { NestsStmts self.now.fuel (F.pre self.now.stmt) (F.post self.now.stmt) }
-        ensures { Reads (spec.if_from 200 (spec.stmt 200 self.now.fuel) counter cursor.old) result cursor.new }
+        ensures { Reads (spec.if_from nesting_limit (spec.stmt nesting_limit self.now.fuel) counter cursor.old) result cursor.new }
     {
         let line = cursor.word(Word::If)?;
         let condition = condition(self.alloc, cursor, counter)?;
@@ -157,7 +158,7 @@ impl<F: Fn(Global, &mut Cursor<'_>, u32, u32) -> Result<Stmt, Failure>> Stmts<F>
     #[tactic(auto, unfolding(crate::specs::StmtParser::while_from))]
     fn while_from(&self, cursor: &mut Cursor<'_>, counter: u32) -> Result<Stmt, Failure>
         requires { NestsStmts self.now.fuel (F.pre self.now.stmt) (F.post self.now.stmt) }
-        ensures { Reads (spec.while_from 200 (spec.stmt 200 self.now.fuel) counter cursor.old) result cursor.new }
+        ensures { Reads (spec.while_from nesting_limit (spec.stmt nesting_limit self.now.fuel) counter cursor.old) result cursor.new }
     {
         let line = cursor.word(Word::While)?;
         let condition = condition(self.alloc, cursor, counter)?;
@@ -180,7 +181,7 @@ impl<F: Fn(Global, &mut Cursor<'_>, u32, u32) -> Result<Stmt, Failure>> Stmts<F>
         start: ForStart,
     ) -> Result<Stmt, Failure>
         requires { NestsStmts self.now.fuel (F.pre self.now.stmt) (F.post self.now.stmt) }
-        ensures { Reads (spec.for_rest 200 (spec.stmt 200 self.now.fuel) counter line start cursor.old) result cursor.new }
+        ensures { Reads (spec.for_rest nesting_limit (spec.stmt nesting_limit self.now.fuel) counter line start cursor.old) result cursor.new }
     {
         let condition = optional_expr(self.alloc, cursor, counter)?;
         cursor.mark(Mark::Semicolon)?;
@@ -200,7 +201,7 @@ impl<F: Fn(Global, &mut Cursor<'_>, u32, u32) -> Result<Stmt, Failure>> Stmts<F>
     #[tactic(auto, unfolding(crate::specs::StmtParser::for_from))]
     fn for_from(&self, cursor: &mut Cursor<'_>, counter: u32) -> Result<Stmt, Failure>
         requires { NestsStmts self.now.fuel (F.pre self.now.stmt) (F.post self.now.stmt) }
-        ensures { Reads (spec.for_from 200 (spec.stmt 200 self.now.fuel) counter cursor.old) result cursor.new }
+        ensures { Reads (spec.for_from nesting_limit (spec.stmt nesting_limit self.now.fuel) counter cursor.old) result cursor.new }
     {
         let line = cursor.word(Word::For)?;
         cursor.mark(Mark::OpenParen)?;
@@ -211,7 +212,7 @@ impl<F: Fn(Global, &mut Cursor<'_>, u32, u32) -> Result<Stmt, Failure>> Stmts<F>
     #[tactic(auto, unfolding(crate::specs::StmtParser::par_from))]
     fn par_from(&self, cursor: &mut Cursor<'_>, counter: u32) -> Result<Stmt, Failure>
         requires { NestsStmts self.now.fuel (F.pre self.now.stmt) (F.post self.now.stmt) }
-        ensures { Reads (spec.par_from 200 (spec.stmt 200 self.now.fuel) counter cursor.old) result cursor.new }
+        ensures { Reads (spec.par_from nesting_limit (spec.stmt nesting_limit self.now.fuel) counter cursor.old) result cursor.new }
     {
         let line = cursor.word(Word::Par)?;
         cursor.mark(Mark::OpenBrace)?;
@@ -223,7 +224,7 @@ impl<F: Fn(Global, &mut Cursor<'_>, u32, u32) -> Result<Stmt, Failure>> Stmts<F>
     #[tactic(auto, unfolding(crate::specs::StmtParser::return_from))]
     fn return_from(&self, cursor: &mut Cursor<'_>, counter: u32) -> Result<Stmt, Failure>
         requires { NestsStmts self.now.fuel (F.pre self.now.stmt) (F.post self.now.stmt) }
-        ensures { Reads (spec.return_from 200 (spec.stmt 200 self.now.fuel) counter cursor.old) result cursor.new }
+        ensures { Reads (spec.return_from nesting_limit (spec.stmt nesting_limit self.now.fuel) counter cursor.old) result cursor.new }
     {
         let line = cursor.word(Word::Return)?;
         let value = optional_expr(self.alloc, cursor, counter)?;
@@ -234,7 +235,7 @@ impl<F: Fn(Global, &mut Cursor<'_>, u32, u32) -> Result<Stmt, Failure>> Stmts<F>
     #[tactic(auto, unfolding(crate::specs::StmtParser::statement))]
     fn statement(&self, cursor: &mut Cursor<'_>, counter: u32) -> Result<Stmt, Failure>
         requires { NestsStmts self.now.fuel (F.pre self.now.stmt) (F.post self.now.stmt) }
-        ensures { Reads (spec.statement 200 (spec.stmt 200 self.now.fuel) counter cursor.old) result cursor.new }
+        ensures { Reads (spec.statement nesting_limit (spec.stmt nesting_limit self.now.fuel) counter cursor.old) result cursor.new }
     {
         match stmt_start(cursor.kind()) {
             StmtStart::Block => {
@@ -278,7 +279,7 @@ pub fn stmt(
     fuel: u32,
     counter: u32,
 ) -> Result<Stmt, Failure>
-    ensures { Reads (spec.stmt 200 fuel counter cursor.old) result cursor.new }
+    ensures { Reads (spec.stmt nesting_limit fuel counter cursor.old) result cursor.new }
 {
     if !is_stmt(cursor.kind()) {
         return Err(Failure::Unexpected(cursor.left()));

@@ -1,4 +1,4 @@
-use Rattle.std.proofs.Common.{rules, arith, refl, ◌+◌}
+use Rattle.std.proofs.Common.{rules, arith, refl}
 use Rattle.std.proofs.lemmas.Grind.{common_steps}
 use Rattle.c_lex.specs.declared.token.Mark.{Mark}
 use Rattle.c_parse.specs.Tokens.{is_mark}
@@ -7,31 +7,32 @@ use Rattle.c_parse.specs.TypeParser.{after_comma}
 use Rattle.parse_laws.specs.Parsing.{found_and, ◌<$>◌}
 use Rattle.c_parse.proofs.Loops.{turn_first, turn_more, turn_none}
 use Rattle.c_parse.proofs.decls.more_items.Goals as goal
+use Rattle.c_parse.specs.NestingLimit.{nesting_limit}
 
 pub loop-turn-init : goal.loop-turn-init
-loop-turn-init c = turn_first (is_mark Mark.Comma) refl (λ found. found_and found <$> after_comma (spec.decl_item 200 c.args.counter)) _ _ _ (omega arith)
+loop-turn-init c = turn_first (is_mark Mark.Comma) refl (λ found. found_and found <$> after_comma (spec.decl_item nesting_limit c.args.counter)) _ _ _ (omega arith)
 
 pub returns-then-not-is_mark : goal.returns-then-not-is_mark
 returns-then-not-is_mark c =
-    let e = turn_more (is_mark Mark.Comma) refl (λ found. found_and found <$> after_comma (spec.decl_item 200 c.args.counter)) _ _ _ _ _ c.loop-turn.invariant c.loop-turn-test.true in
+    let e = turn_more (is_mark Mark.Comma) refl (λ found. found_and found <$> after_comma (spec.decl_item nesting_limit c.args.counter)) _ _ _ _ _ c.loop-turn.invariant c.loop-turn-test.true in
     first_of (search rules, grind (arith, common_steps))
 
 pub returns-in_err-mark : goal.returns-in_err-mark
 returns-in_err-mark c =
-    let e = turn_more (is_mark Mark.Comma) refl (λ found. found_and found <$> after_comma (spec.decl_item 200 c.args.counter)) _ _ _ _ _ c.loop-turn.invariant c.loop-turn-test.true in
+    let e = turn_more (is_mark Mark.Comma) refl (λ found. found_and found <$> after_comma (spec.decl_item nesting_limit c.args.counter)) _ _ _ _ _ c.loop-turn.invariant c.loop-turn-test.true in
     first_of (search rules, grind (arith, common_steps))
 
 pub returns-in_err-next : goal.returns-in_err-next
 returns-in_err-next c =
-    let e = turn_more (is_mark Mark.Comma) refl (λ found. found_and found <$> after_comma (spec.decl_item 200 c.args.counter)) _ _ _ _ _ c.loop-turn.invariant c.loop-turn-test.true in
+    let e = turn_more (is_mark Mark.Comma) refl (λ found. found_and found <$> after_comma (spec.decl_item nesting_limit c.args.counter)) _ _ _ _ _ c.loop-turn.invariant c.loop-turn-test.true in
     first_of (search rules, grind (arith, common_steps))
 
 pub loop-turn-preserved : goal.loop-turn-preserved
 loop-turn-preserved c =
-    let e = turn_more (is_mark Mark.Comma) refl (λ found. found_and found <$> after_comma (spec.decl_item 200 c.args.counter)) _ _ _ _ _ c.loop-turn.invariant c.loop-turn-test.true in
+    let e = turn_more (is_mark Mark.Comma) refl (λ found. found_and found <$> after_comma (spec.decl_item nesting_limit c.args.counter)) _ _ _ _ _ c.loop-turn.invariant c.loop-turn-test.true in
     first_of (search rules, grind (arith, common_steps))
 
 pub returns : goal.returns
 returns c =
-    let e = turn_none (is_mark Mark.Comma) refl (λ found. found_and found <$> after_comma (spec.decl_item 200 c.args.counter)) _ _ _ _ _ c.loop-turn.invariant (omega arith) in
+    let e = turn_none (is_mark Mark.Comma) refl (λ found. found_and found <$> after_comma (spec.decl_item nesting_limit c.args.counter)) _ _ _ _ _ c.loop-turn.invariant (omega arith) in
     first_of (search rules, grind (arith, common_steps))

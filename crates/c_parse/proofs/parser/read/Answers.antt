@@ -1,4 +1,4 @@
-use Rattle.std.proofs.Common.{◌≡◌, ap, sym, ◌∙◌}
+use Rattle.std.proofs.Common.{ap, ◌∙◌}
 use Rattle.c_parse.specs.Symbol.{symbols_of}
 use Rattle.c_parse.proofs.Told.{told_of}
 use Rattle.c_parse.proofs.parser.read.Goals as goal

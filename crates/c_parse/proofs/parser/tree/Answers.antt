@@ -1,4 +1,4 @@
-use Rattle.std.proofs.Common.{◌≡◌, sym, subst}
+use Rattle.std.proofs.Common.{sym, subst}
 use Rattle.c_lex.specs.IsLexed.{Lexed}
 use Rattle.c_parse.specs.Symbol.{symbols_of}
 use Rattle.c_parse.specs.Parsed.{IsProgram}

@@ -1,29 +1,30 @@
-use Rattle.std.proofs.Common.{rules, arith, refl, ◌+◌}
+use Rattle.std.proofs.Common.{rules, arith, refl}
 use Rattle.std.proofs.lemmas.Grind.{common_steps}
 use Rattle.c_parse.specs.ProgramParser as spec
 use Rattle.parse_laws.specs.Parsing.{found_and, ◌<$>◌}
 use Rattle.c_parse.proofs.Loops.{turn_first, turn_more, turn_none}
 use Rattle.c_parse.proofs.programs.items.Goals as goal
+use Rattle.c_parse.specs.NestingLimit.{nesting_limit}
 
 pub loop-turn-init : goal.loop-turn-init
-loop-turn-init c = turn_first (spec.is_more) refl (λ found. found_and found <$> spec.item 200) _ _ _ (omega arith)
+loop-turn-init c = turn_first (spec.is_more) refl (λ found. found_and found <$> spec.item nesting_limit) _ _ _ (omega arith)
 
 pub returns-then-is_none : goal.returns-then-is_none
 returns-then-is_none c =
-    let e = turn_more (spec.is_more) refl (λ found. found_and found <$> spec.item 200) _ _ _ _ _ c.loop-turn.invariant c.loop-turn-test.true in
+    let e = turn_more (spec.is_more) refl (λ found. found_and found <$> spec.item nesting_limit) _ _ _ _ _ c.loop-turn.invariant c.loop-turn-test.true in
     first_of (search rules, grind (arith, common_steps))
 
 pub returns-in_err-next : goal.returns-in_err-next
 returns-in_err-next c =
-    let e = turn_more (spec.is_more) refl (λ found. found_and found <$> spec.item 200) _ _ _ _ _ c.loop-turn.invariant c.loop-turn-test.true in
+    let e = turn_more (spec.is_more) refl (λ found. found_and found <$> spec.item nesting_limit) _ _ _ _ _ c.loop-turn.invariant c.loop-turn-test.true in
     first_of (search rules, grind (arith, common_steps))
 
 pub loop-turn-preserved : goal.loop-turn-preserved
 loop-turn-preserved c =
-    let e = turn_more (spec.is_more) refl (λ found. found_and found <$> spec.item 200) _ _ _ _ _ c.loop-turn.invariant c.loop-turn-test.true in
+    let e = turn_more (spec.is_more) refl (λ found. found_and found <$> spec.item nesting_limit) _ _ _ _ _ c.loop-turn.invariant c.loop-turn-test.true in
     first_of (search rules, grind (arith, common_steps))
 
 pub returns : goal.returns
 returns c =
-    let e = turn_none (spec.is_more) refl (λ found. found_and found <$> spec.item 200) _ _ _ _ _ c.loop-turn.invariant (omega arith) in
+    let e = turn_none (spec.is_more) refl (λ found. found_and found <$> spec.item nesting_limit) _ _ _ _ _ c.loop-turn.invariant (omega arith) in
     first_of (search rules, grind (arith, common_steps))

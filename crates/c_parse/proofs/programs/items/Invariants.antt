@@ -4,6 +4,7 @@ use Rattle.c_parse.specs.ProgramParser as spec
 use Rattle.parse_laws.specs.Parsing.{found_and, ◌<$>◌}
 use Rattle.c_parse.specs.Tokens.{goes}
 use Rattle.c_parse.proofs.programs.items.Given as goal
+use Rattle.c_parse.specs.NestingLimit.{nesting_limit}
 
 abbrev pub invariant-loop-turn : goal.invariant-loop-turn
-invariant-loop-turn l = spec.more_items 200 l.fn.found l.fn.cursor ≡ turns (goes (spec.is_more)) (λ found. found_and found <$> spec.item 200) (l.turns - l._turn) l.found l.cursor
+invariant-loop-turn l = spec.more_items nesting_limit l.fn.found l.fn.cursor ≡ turns (goes (spec.is_more)) (λ found. found_and found <$> spec.item nesting_limit) (l.turns - l._turn) l.found l.cursor

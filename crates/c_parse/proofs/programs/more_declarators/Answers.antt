@@ -1,8 +1,7 @@
-use Rattle.std.proofs.Common.{rules, arith, refl, ◌+◌}
+use Rattle.std.proofs.Common.{rules, arith, refl}
 use Rattle.std.proofs.lemmas.Grind.{common_steps}
 use Rattle.c_lex.specs.declared.token.Mark.{Mark}
 use Rattle.c_parse.specs.Tokens.{is_mark}
-use Rattle.c_parse.specs.ProgramParser as spec
 use Rattle.c_parse.specs.TypeParser.{after_comma, declarator}
 use Rattle.parse_laws.specs.Parsing.{found_and, ◌<$>◌}
 use Rattle.c_parse.proofs.Loops.{turn_first, turn_more, turn_none}

@@ -1,4 +1,4 @@
-use Rattle.std.proofs.Common.{rules, ◌≡◌, true, sym, subst, ◌<◌, ◌≤◌, arith}
+use Rattle.std.proofs.Common.{rules, ◌≡◌, true, sym, subst, arith}
 use Rattle.std.proofs.lemmas.Grind.{common_steps}
 use Rattle.c_parse.specs.Tokens.{next, kind_of}
 use Rattle.c_parse.specs.Sorts.{is_stmt}

@@ -1,4 +1,4 @@
-use Rattle.std.proofs.Common.{rules, arith, refl, ◌+◌}
+use Rattle.std.proofs.Common.{rules, arith, refl}
 use Rattle.std.proofs.lemmas.Grind.{common_steps}
 use Rattle.c_lex.specs.declared.token.Mark.{Mark}
 use Rattle.c_parse.specs.Tokens.{is_mark}

@@ -1,8 +1,7 @@
-use Rattle.std.proofs.Common.{◌≡◌, Option, Some, None, List, [], ◌∷◌, length, refl, sym, ap, ◌∙◌}
+use Rattle.std.proofs.Common.{◌≡◌, Some, None, [], ◌∷◌, length, refl, sym, ap, ◌∙◌}
 use Rattle.parse_laws.specs.Parsing.{finish, done, fault, unexpected}
-use Rattle.parse_laws.proofs.Steps.{none_some, some_is}
 use Rattle.c_lex.specs.declared.token.Kind.{Kind}
-use Rattle.c_parse.specs.Symbol.{Symbol, Symbols}
+use Rattle.c_parse.specs.Symbol.{Symbols}
 use Rattle.c_parse.specs.Tokens as spec
 use Rattle.c_parse.proofs.cursor.Cursor.finish.Goals as goal
 

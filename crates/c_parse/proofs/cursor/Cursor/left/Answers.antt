@@ -1,4 +1,4 @@
-use Rattle.std.proofs.Common.{◌≡◌, ap, sym, ◌∙◌, length}
+use Rattle.std.proofs.Common.{ap, sym, ◌∙◌, length}
 use Rattle.c_parse.proofs.Symbols.{length_symbols}
 use Rattle.c_parse.proofs.cursor.Cursor.left.Goals as goal
 

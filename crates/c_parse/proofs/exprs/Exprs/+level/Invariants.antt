@@ -1,8 +1,9 @@
-use Rattle.std.proofs.Common.{◌≡◌, ℕ, ◌+◌, ◌-◌, ◌*◌, length}
+use Rattle.std.proofs.Common.{◌≡◌, ◌+◌, ◌-◌, ◌*◌, length}
 use Rattle.parse_laws.specs.Parsing.{rising, turns}
 use Rattle.c_parse.specs.ExprParser as spec
 use Rattle.c_parse.specs.Tokens.{goes}
 use Rattle.c_parse.proofs.exprs.Exprs.+level.Given as goal
+use Rattle.c_parse.specs.NestingLimit.{nesting_limit}
 
 abbrev pub decreases-level : goal.decreases-level
 decreases-level g l = 5 * length l.tiers.now
@@ -21,5 +22,5 @@ decreases-right g l = 5 * length l.lower.now + 1
 
 abbrev pub invariant-operators-loop-turn : goal.invariant-operators-loop-turn
 invariant-operators-loop-turn g l =
-    spec.operators l.tier (spec.level 200 (spec.unary_of (spec.subject 200 l.self.fuel)) l.lower) l.line 200 l.fn.found l.fn.cursor
-    ≡ turns (goes (spec.is_binary l.tier)) (λ v. rising 200 v.1 (spec.right l.tier (spec.level 200 (spec.unary_of (spec.subject 200 l.self.fuel)) l.lower) l.line v.0)) (l.turns - l._turn) l.found l.cursor
+    spec.operators l.tier (spec.level nesting_limit (spec.unary_of (spec.subject nesting_limit l.self.fuel)) l.lower) l.line nesting_limit l.fn.found l.fn.cursor
+    ≡ turns (goes (spec.is_binary l.tier)) (λ v. rising nesting_limit v.1 (spec.right l.tier (spec.level nesting_limit (spec.unary_of (spec.subject nesting_limit l.self.fuel)) l.lower) l.line v.0)) (l.turns - l._turn) l.found l.cursor

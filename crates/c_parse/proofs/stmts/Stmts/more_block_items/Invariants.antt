@@ -4,6 +4,7 @@ use Rattle.c_parse.specs.StmtParser as spec
 use Rattle.parse_laws.specs.Parsing.{found_and, ◌<$>◌}
 use Rattle.c_parse.specs.Tokens.{goes}
 use Rattle.c_parse.proofs.stmts.Stmts.more_block_items.Given as goal
+use Rattle.c_parse.specs.NestingLimit.{nesting_limit}
 
 abbrev pub invariant-loop-turn : goal.invariant-loop-turn
-invariant-loop-turn g l = spec.more_block_items 200 (spec.stmt 200 l.self.fuel) l.counter l.fn.found l.fn.cursor ≡ turns (goes (spec.is_open)) (λ found. found_and found <$> spec.item 200 (spec.stmt 200 l.self.fuel) l.counter) (l.turns - l._turn) l.found l.cursor
+invariant-loop-turn g l = spec.more_block_items nesting_limit (spec.stmt nesting_limit l.self.fuel) l.counter l.fn.found l.fn.cursor ≡ turns (goes (spec.is_open)) (λ found. found_and found <$> spec.item nesting_limit (spec.stmt nesting_limit l.self.fuel) l.counter) (l.turns - l._turn) l.found l.cursor
