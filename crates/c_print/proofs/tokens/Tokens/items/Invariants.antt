@@ -1,0 +1,7 @@
+use Rattle.std.proofs.Common.{◌≡◌, ◌++◌, take}
+use Rattle.std.specs.List.{flat_map}
+use Rattle.c_print.specs.TreeTokens as spec
+use Rattle.c_print.proofs.tokens.Tokens.items.Given as goal
+
+abbrev pub invariant-loop-item : goal.invariant-loop-item
+invariant-loop-item l = l.self ≡ l.fn.self ++ flat_map spec.of_item (take l.item-index l.items)

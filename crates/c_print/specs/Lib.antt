@@ -1,0 +1,10 @@
+pub mod Precedence
+pub mod Signs
+pub mod TreeTokens
+pub mod Spelling
+pub mod Text
+pub mod SameTree
+pub mod IsTreeOf
+pub mod ReadsBack
+pub mod OneText
+pub mod NoSpareParens
