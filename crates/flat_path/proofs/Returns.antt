@@ -103,7 +103,7 @@ named_is_call : (link : ℕ) (i : Instr) → is_call_with link i ≡ true → Is
 named_is_call link (Instr.Call to f def args) e = tt
 named_is_call link i e = cc
 
-found_call : (link at k : ℕ) (code : List Lined) → call_from at code link ≡ Some k → (j : ℕ) × (k ≡ at + j) × IsCall (instr_in code j)
+pub found_call : (link at k : ℕ) (code : List Lined) → call_from at code link ≡ Some k → (j : ℕ) × (k ≡ at + j) × IsCall (instr_in code j)
 found_call link at k [] e = cc
 found_call link at k (l ∷ code) e = by (is_call_with link l.instr) refl e (found_call link (suc at) k code)
   where

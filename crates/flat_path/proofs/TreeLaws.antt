@@ -5,6 +5,7 @@ use Rattle.dfi_base.specs.Lives.{own, Begins, Ended}
 use Rattle.tac_ir.specs.declared.run.Entry.{Entry}
 use Rattle.tac_ir.specs.Module.{Module}
 use Rattle.tac_ir.specs.declared.code.Instr.{Instr}
+use Rattle.tac_ir.specs.GoodForm.{GoodForm}
 use Rattle.tac_ir.specs.Words.{int_of}
 use Rattle.tac_ir.specs.Layout.{instr_at}
 use Rattle.tac_ir.specs.Path.{next_spot, temp_of}
@@ -18,8 +19,10 @@ use Rattle.flat_path.specs.Wants.{next_of, ended_with, EndsWith}
 use Rattle.flat_path.specs.InPlace.{FlatLives}
 use Rattle.flat_path.specs.Runs.{Runs}
 use Rattle.flat_path.specs.Alive.{AreAlive}
-use Rattle.flat_path.specs.Returned.{HasReturned}
+use Rattle.flat_path.specs.Returned.{HasReturned, MainReturned}
 use Rattle.flat_path.specs.Returned.HasReturned.{returns, stops}
+use Rattle.flat_path.proofs.Homes.{entry_home}
+use Rattle.flat_path.proofs.MainPath.{ends_with_value}
 use Rattle.flat_path.proofs.Placed.{AreLiving, runs_next, only_running, alive_not_ended}
 
 living : (m : Module) (h : List Entry) (f : FlatLives) (d : Option ℕ) → AreAlive m h f d → AreLiving m h f
@@ -84,3 +87,15 @@ none_before m h f d alive going = by (f 1) refl
     by : (o : Option FlatLife) → f 1 ≡ o → d ≡ None
     by None is = absurd (going ((same_end m h f d alive).0 is))
     by (Some l) is = alive.place.main.lives l is
+
+-- in code of a good form main returns
+pub main_returned : (m : Module) (h : List Entry) (f : FlatLives) (d : Option ℕ) → GoodForm m.code → AreAlive m h f d → Ended (threads_of m) h 1 → MainReturned m h d
+main_returned m h f d good alive over =
+    let none = (same_end m h f d alive).1 over in
+    let v = alive.place.main.ended none in
+    by v.value v.ends v.is
+  where
+    by : (v : Option ℕ) → EndsWith m.code (root_start m) (own (threads_of m) 1 h) v → d ≡ Some (main_value flat_meaning v) → MainReturned m h d
+    by (Some x) ends is = (x, is, returned_value m h x over alive.place.settled.threads.root ends)
+    by None ends is =
+        absurd (ends_with_value m.code good (root_start m) (entry_home m.code good m.code.main good.funs.main) (own (threads_of m) 1 h) ends)

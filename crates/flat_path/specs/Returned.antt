@@ -12,3 +12,7 @@ use Rattle.flat_path.specs.Wants.{EndsWith}
 pub data HasReturned (m : Module) (h : List Entry) (done : Option ℕ) : Type 0 where
   returns : (v : ℕ) → done ≡ Some v → Returns m h (int_of v) → HasReturned m h done
   stops : done ≡ Some 0 → EndsWith m.code (root_start m) (own (threads_of m) 1 h) None → HasReturned m h done
+
+-- In code of a good form no such `end` is: main's value is there, and it is the one that main returned.
+abbrev pub MainReturned : Module → List Entry → Option ℕ → Type 0
+MainReturned m h done = (v : ℕ) × (done ≡ Some v) × Returns m h (int_of v)

@@ -15,7 +15,7 @@ ghost use Rattle.flat_path.specs.Standing.{FlatLife};
 ghost use Rattle.flat_path.specs.Begins.{root_stack};
 ghost use Rattle.flat_path.specs.InPlace.{FlatLives, AreInPlace};
 ghost use Rattle.flat_path.specs.Runs.{Runs};
-ghost use Rattle.flat_path.specs.Returned.{HasReturned};
+ghost use Rattle.flat_path.specs.Returned.{HasReturned, MainReturned};
 ghost use Rattle.flat_path.specs.Alive.{AreAlive, IsNextTold, AreShares};
 
 /// A tree that begins has the threads of the empty history.
@@ -42,6 +42,11 @@ pub fn same_end()
 pub fn main_has_its_value()
     ensures ended { (m : Module) (h : List Entry) (f : FlatLives) (done : Option ℕ) → AreAlive m h f done → Ended (threads_of m) h 1 → HasReturned m h done }
     ensures lives { (m : Module) (h : List Entry) (f : FlatLives) (done : Option ℕ) → AreAlive m h f done → (Ended (threads_of m) h 1 → ⊥) → done ≡ None }
+{}
+
+/// In code of a good form thread 1 ends by the return of main, whose value is there.
+pub fn main_returns_its_value()
+    ensures { (m : Module) (h : List Entry) (f : FlatLives) (done : Option ℕ) → GoodForm m.code → AreAlive m h f done → Ended (threads_of m) h 1 → MainReturned m h done }
 {}
 
 /// Where an answer stops the run, thread 1 has not ended.

@@ -3,6 +3,8 @@ pub mod Silent
 pub mod Runs
 pub mod Held
 pub mod Sized
+pub mod Nested
 pub mod Trees
 pub mod Forking
 pub mod Samples
+pub mod DeepForm

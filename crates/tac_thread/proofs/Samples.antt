@@ -9,7 +9,7 @@ use Rattle.tac_ir.specs.Layout.{words_in, frame_words}
 use Rattle.tac_ir.specs.Counts.{nodes_in}
 use Rattle.tac_ir.specs.GoodForm.{GoodForm}
 use Rattle.tac_ir.proofs.FormTest.{form_good}
-use Rattle.tac_thread.specs.Samples.{main_code, counting_lines, twice_lines, nesting_code}
+use Rattle.tac_thread.specs.Samples.{main_code, counting_lines, twice_lines, nesting_code, calling_code, summing_code, sharing_code}
 
 pub counting_good : (from : ℤ) → GoodForm (main_code (counting_lines from))
 unfolding words_in nodes_in
@@ -49,3 +49,15 @@ le-true a b h = grind (arith, nat_le)
 
 pub main_framed : (c : Code) → GoodForm c → nat_le (0 + frame_words c c.main) 5000 ≡ true
 main_framed c good = le-true (0 + frame_words c c.main) 5000 (omega (arith, main_frame c good))
+
+pub calling_good : GoodForm calling_code
+unfolding words_in nodes_in
+calling_good = form_good calling_code refl
+
+pub summing_good : GoodForm summing_code
+unfolding words_in nodes_in
+summing_good = form_good summing_code refl
+
+pub sharing_good : GoodForm sharing_code
+unfolding words_in nodes_in
+sharing_good = form_good sharing_code refl

@@ -1,5 +1,5 @@
 -- Silent instructions come to an end: whoever goes back goes to the head of a loop, which asks.
-use Rattle.std.proofs.Common.{◌≡◌, ℕ, suc, ◌+◌, ◌-◌, ◌<◌, Bool, true, false, List, [], length, refl, sym, ap, ◌∙◌, subst, arith, lit<, Option, Some, None, ◌⊎◌, inl, inr}
+use Rattle.std.proofs.Common.{◌≡◌, ℕ, ◌+◌, ◌-◌, ◌<◌, ◌≤◌, Bool, true, false, List, [], length, refl, sym, ap, ◌∙◌, subst, arith, lit<, Option, Some, None, ◌⊎◌, inl, inr}
 use Rattle.std.specs.Prelude.{slice_get, All}
 use Rattle.std.proofs.lemmas.Option.{slice_get_within}
 use Rattle.tac_ir.specs.declared.code.Code.{Code}
@@ -16,6 +16,7 @@ use Rattle.tac_thread.specs.Meaning.{Meaning}
 use Rattle.tac_thread.specs.Fetched.{instr_in}
 use Rattle.tac_thread.specs.Life.{Life, instr_of}
 use Rattle.tac_thread.specs.Doing.{doing, given, tested, leaves, done, silent_at, silent_next}
+use Rattle.tac_thread.specs.RunsOn.{RunsOn, count_of}
 use Rattle.tac_thread.specs.Left.{is_silent, left_from, left_in, left_of}
 
 -- an index behind this one, or a `turn`
@@ -71,12 +72,12 @@ inside code at silent = by (slice_get code at) refl silent
 -- onward fewer are left
 fewer : (code : List Lined) (at t : ℕ) → is_silent (instr_in code at) ≡ true → IsOnward code at t → left_in code t < left_in code at
 fewer code at t silent on =
-    let here : left_in code at ≡ suc (length code - at) = ap (λ b. left_from b code at) silent in
+    let here : left_in code at ≡ length code - at = ap (λ b. left_from b code at) silent in
     let low : at < length code = inside code at silent in
     by (is_silent (instr_in code t)) refl on here low
   where
-    by : (b : Bool) → is_silent (instr_in code t) ≡ b → IsOnward code at t → left_in code at ≡ suc (length code - at) → at < length code → left_from b code t < left_in code at
-    by false is on here low = omega (arith, here)
+    by : (b : Bool) → is_silent (instr_in code t) ≡ b → IsOnward code at t → left_in code at ≡ length code - at → at < length code → left_from b code t < left_in code at
+    by false is on here low = omega (arith, here, low)
     by true is (inl later) here low = omega (arith, here, inside code t is)
     by true is (inr turn) here low =
         let found : instr_in code t ≡ Instr.Turn = ap (λ o. elim o [ None ↦ Instr.End | Some l ↦ l.instr ]) turn.1 ∙ turn.2 in
@@ -121,3 +122,18 @@ falls {X} {T} m c l next good step =
     by (Stage.Entering callee) step on = cc
     by (Stage.Leaving v) step on = cc
     by Stage.Waiting step on = cc
+
+few_left : (code : List Lined) (at : ℕ) → left_in code at ≤ length code
+few_left code at = by (is_silent (instr_in code at))
+  where
+    by : (b : Bool) → left_from b code at ≤ length code
+    by true = omega arith
+    by false = omega arith
+
+counted : {X T : Type 0} (m : Meaning X T) (c : Code) → GoodForm c → (l last : Life X T) (r : RunsOn m c l last) → count_of r ≤ left_of c l
+counted m c good l last (RunsOn.rests k rest) = omega arith
+counted m c good l last (RunsOn.runs k next end step on) = omega (arith, falls m c l next good step, counted m c good next last on)
+
+-- a stretch is no longer than the function
+pub short : {X T : Type 0} (m : Meaning X T) (c : Code) → GoodForm c → (l last : Life X T) (r : RunsOn m c l last) → count_of r ≤ length (lines_of c l.top.fun)
+short m c good l last r = omega (arith, counted m c good l last r, few_left (lines_of c l.top.fun) l.top.at)

@@ -2,6 +2,7 @@
 use Rattle.std.proofs.Common.{◌≡◌, ℕ, zero, suc, ◌+◌, ◌-◌, ◌<◌, ◌≤◌, List, [], ◌∷◌, length, get_or, slice_index, take, drop, map, sum, reverse, refl, sym, ap, ◌∙◌, subst, arith, lit<, Option, Some, None, drop-cons, add-one, Bor, MatchOption}
 use Rattle.std.specs.Prelude.{slice_get, All}
 use Rattle.std.specs.Option.{option_copied}
+use Rattle.std.proofs.lemmas.Nat.{mul-le}
 use Rattle.std.proofs.lemmas.List.{length-reverse, length-map, length-take, take_all, drop_all, get_or-map, get_or-take}
 use Rattle.std.proofs.lemmas.List.Sums.{sum-map, sum_by_more_le}
 use Rattle.std.proofs.lemmas.Option.{slice_get_within, slice_get-get_or, get_or_from_slice_get}
@@ -12,9 +13,9 @@ use Rattle.tac_ir.specs.declared.code.Global.{Global}
 use Rattle.tac_ir.specs.declared.code.Place.{Place}
 use Rattle.tac_ir.specs.Layout.{words_by, shape_words, words_before, parts_of, vars_of, shapes_of_globals, along, frame_words}
 use Rattle.tac_ir.specs.Places.{end_of_path, end_from, shape_of_place, IsPlace}
-use Rattle.tac_ir.specs.GoodForm.{GoodForm, shapes_named}
+use Rattle.tac_ir.specs.GoodForm.{GoodForm, shapes_named, count_of}
 use Rattle.tac_ir.proofs.ShapeWords.{shape_words-at, shape_words-none, shape_words-most, words_before-with, words_before-le, words_before-more, struct_words, along_within}
-use Rattle.tac_thread.specs.Paths.{LeadsTo, NamesEarlier, IsSized, IsFitting}
+use Rattle.tac_thread.specs.Paths.{LeadsTo, NamesEarlier, HasItems, IsSized, IsFitting}
 
 names_earlier : (s : ℕ) (shape : Shape) → All (λ n. n < s) (shapes_named shape) → NamesEarlier s shape
 names_earlier s Shape.Int h = tt
@@ -22,17 +23,48 @@ names_earlier s Shape.Ptr h = tt
 names_earlier s (Shape.Array len item) h = h 0 item (lit< tt)
 names_earlier s (Shape.Struct parts) h = h
 
-pub sized : (c : Code) → GoodForm c → (s : ℕ) (shape : Shape) → slice_get c.shapes s ≡ Some shape → IsSized c s shape
-sized c good s shape found = record {
-  words = shape_words-at c good s shape found;
-  most = shape_words-most c good s;
-  earlier = names_earlier s shape (good.shapes.each s shape found).earlier;
-}
-
 slice_get_none : {A : Type 0} (xs : List A) (i : ℕ) → slice_get xs i ≡ None → length xs ≤ i
 slice_get_none [] i h = omega arith
 slice_get_none (x ∷ xs) zero h = cc
 slice_get_none (x ∷ xs) (suc i) h = omega (arith, slice_get_none xs i h)
+
+-- a shape has words where those that it names have some
+some_by : (c : Code) (s : ℕ) (shape : Shape) → All (λ n. n < s) (shapes_named shape) → 1 ≤ count_of shape → ((r : ℕ) → r < s → 1 ≤ shape_words c r) → 1 ≤ words_by (shape_words c) shape
+some_by c s Shape.Int earlier some rest = omega arith
+some_by c s Shape.Ptr earlier some rest = omega arith
+some_by c s (Shape.Array len item) earlier some rest = omega (arith, mul-le 1 1 len (shape_words c item) some (rest item (earlier 0 item (lit< tt))))
+some_by c s (Shape.Struct []) earlier some rest = absurd (omega (arith, some))
+some_by c s (Shape.Struct (p ∷ parts)) earlier some rest = omega (arith, words_before-with c (p ∷ parts) 0 p refl, rest p (earlier 0 p (omega arith)))
+
+some_up_to : (c : Code) → GoodForm c → (n s : ℕ) → s < n → s < length c.shapes → 1 ≤ shape_words c s
+some_up_to c good zero s below within = absurd (omega (arith, below))
+some_up_to c good (suc n) s below within = by (slice_get c.shapes s) refl (λ r earlier. some_up_to c good n r (omega (arith, below, earlier)) (omega (arith, within, earlier)))
+  where
+    by : (o : Option Shape) → slice_get c.shapes s ≡ o → ((r : ℕ) → r < s → 1 ≤ shape_words c r) → 1 ≤ shape_words c s
+    by None found rest = absurd (omega (arith, within, slice_get_none c.shapes s found))
+    by (Some shape) found rest =
+        let is = good.shapes.each s shape found in
+        omega (arith, shape_words-at c good s shape found, some_by c s shape is.earlier is.some rest)
+
+-- every shape has words
+some_words : (c : Code) → GoodForm c → (s : ℕ) → s < length c.shapes → 1 ≤ shape_words c s
+some_words c good s within = some_up_to c good (suc s) s (omega arith) within
+
+has_items : (c : Code) → GoodForm c → (s : ℕ) (shape : Shape) → s < length c.shapes → NamesEarlier s shape → HasItems c shape
+has_items c good s Shape.Int within earlier = tt
+has_items c good s Shape.Ptr within earlier = tt
+has_items c good s (Shape.Array len item) within earlier = some_words c good item (omega (arith, within, earlier))
+has_items c good s (Shape.Struct parts) within earlier = tt
+
+pub sized : (c : Code) → GoodForm c → (s : ℕ) (shape : Shape) → slice_get c.shapes s ≡ Some shape → IsSized c s shape
+sized c good s shape found =
+    let earlier = names_earlier s shape (good.shapes.each s shape found).earlier in
+    record {
+      words = shape_words-at c good s shape found;
+      most = shape_words-most c good s;
+      earlier = earlier;
+      items = has_items c good s shape (slice_get_within c.shapes s shape found) earlier;
+    }
 
 pub none_sized : (c : Code) (s : ℕ) → slice_get c.shapes s ≡ None → shape_words c s ≡ 0
 none_sized c s found = shape_words-none (reverse c.shapes) s (omega (arith, slice_get_none c.shapes s found, length-reverse c.shapes))

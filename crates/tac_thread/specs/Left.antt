@@ -1,5 +1,5 @@
 -- How many silent instructions a thread can still do before its next event. This is a measure for proofs.
-use Rattle.std.specs.Prelude.{ℕ, suc, ◌-◌, Bool, true, false, List, length}
+use Rattle.std.specs.Prelude.{ℕ, ◌-◌, Bool, true, false, List, length}
 use Rattle.tac_ir.specs.declared.code.Code.{Code}
 use Rattle.tac_ir.specs.declared.code.Instr.{Instr}
 use Rattle.tac_ir.specs.declared.code.Lined.{Lined}
@@ -23,7 +23,7 @@ is_silent i = false
 
 -- at such an instruction all that stand from here on, else none
 abbrev pub left_from : Bool → List Lined → ℕ → ℕ
-left_from true code at = suc (length code - at)
+left_from true code at = length code - at
 left_from false code at = 0
 
 abbrev pub left_in : List Lined → ℕ → ℕ

@@ -11,7 +11,9 @@ pub mod Guests
 pub mod Resuming
 pub mod Left
 pub mod Paths
+pub mod Splitting
 pub mod Threads
 pub mod Settling
 pub mod Bytes
 pub mod Samples
+pub mod Deep

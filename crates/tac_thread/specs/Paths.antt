@@ -15,11 +15,17 @@ NamesEarlier s (Shape.Array len item) = item < s
 NamesEarlier s (Shape.Struct parts) = All (λ part. part < s) parts
 NamesEarlier s shape = Unit {0}
 
+-- the item of an array has words
+abbrev pub HasItems : Code → Shape → Type 0
+HasItems c (Shape.Array len item) = 1 ≤ shape_words c item
+HasItems c shape = Unit {0}
+
 -- shape s of code of a good form
 pub record IsSized (c : Code) (s : ℕ) (shape : Shape) : Type 0 where
   pub words : shape_words c s ≡ words_by (shape_words c) shape
   pub most : shape_words c s ≤ 24576
   pub earlier : NamesEarlier s shape
+  pub items : HasItems c shape
 
 -- variable v of these shapes exists, and so does the path of fields behind it, within so many words
 pub record IsFitting (c : Code) (shapes : List ℕ) (v : ℕ) (path : List ℕ) (limit : ℕ) : Type 0 where

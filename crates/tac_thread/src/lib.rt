@@ -4,14 +4,22 @@
 
 mod answer;
 mod calls;
+#[cfg(test)]
+mod codes;
+#[cfg(test)]
+mod deep_tests;
 mod doing;
 mod domain;
 mod fetch;
 mod flat;
+#[cfg(test)]
+mod flat_tests;
 mod forks;
 mod guest;
+mod law;
 mod resume;
 mod run;
+mod shapes;
 mod sizes;
 mod temps;
 #[cfg(test)]
@@ -22,5 +30,6 @@ mod want;
 pub use domain::Domain;
 pub use flat::{FlatStack, FlatWords};
 pub use guest::Guest;
+pub use law::silence_is_short;
 pub use tree::Tree;
 pub use want::{Reply, ReplyOf, Want};

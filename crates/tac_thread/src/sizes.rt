@@ -1,39 +1,14 @@
-ghost use Rattle.std.specs.Prelude.{◌≡◌, ◌<◌, ◌≤◌, ◌^◌, ◌+◌, ◌-◌, sum, map, length, slice_index, MatchOption};
+ghost use Rattle.std.specs.Prelude.{◌≡◌, ◌<◌, ◌≤◌, ◌^◌, ◌+◌, ◌-◌, sum, map, length, slice_index};
 ghost use Rattle.tac_ir.specs.GoodForm.{GoodForm};
 ghost use Rattle.tac_ir.specs.Places.{IsPlace};
-ghost use Rattle.tac_thread.specs.Paths.{LeadsTo, IsSized, IsFitting};
+ghost use Rattle.tac_thread.specs.Paths.{LeadsTo, IsFitting};
 ghost use Rattle.tac_ir.specs.Layout.{shape_words, words_before, parts_of, vars_of, shapes_of_globals, along, place_word, frame_words};
 
+use crate::shapes::shape_words;
 use tac_ir::{Code, Place, Shape};
 
 // The words before the globals are reserved.
 const GLOBALS_FROM: u32 = 16;
-
-/// The words of a shape, and 0 where there is none.
-pub fn shape_words(c: &Code, shape: u32) -> u32
-    requires { GoodForm c.now }
-    ensures { result ≡ shape_words c.now shape }
-{
-    match find_shape(c, shape) {
-        None => 0,
-        Some(Shape::Int | Shape::Ptr) => 1,
-        Some(Shape::Array { len, item }) => *len * shape_words(c, *item),
-        Some(Shape::Struct { parts }) => {
-            let mut total = 0;
-            for part in parts.as_slice() {
-                total += shape_words(c, *part);
-            }
-            total
-        }
-    }
-}
-
-fn find_shape(c: &Code, shape: u32) -> Option<&Shape>
-    requires { GoodForm c.now }
-    ensures { MatchOption result (shape_words c.now shape ≡ 0) (λ s. IsSized c.now shape s.now) }
-{
-    c.shapes.get(shape as usize)
-}
 
 // The words of variables of these shapes.
 fn words_of(c: &Code, shapes: &[u32]) -> u32

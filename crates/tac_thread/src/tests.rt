@@ -5,8 +5,9 @@ ghost use Rattle.tac_thread.specs.Bytes.{bytes_meaning};
 ghost use Rattle.tac_thread.specs.Threads.{life_in, next_in, IsTree};
 ghost use Rattle.tac_thread.specs.Samples.{on_line, main_code, counting_lines, twice_lines, nesting_main, nesting_lines, nesting_code};
 
+use crate::codes::{calling, sharing, summing};
 use crate::{Domain, FlatStack, FlatWords, Reply, ReplyOf, Tree, Want};
-use dfi_base::{Memory, Name};
+use dfi_base::{DefNo, Memory, Name};
 use obj_mem::Maker;
 use sqlite_items::Items;
 use std::alloc::{AllocError, Global};
@@ -75,7 +76,7 @@ impl Domain for Bytes {
     }
 }
 
-fn line(instr: Instr) -> Lined
+pub(crate) fn line(instr: Instr) -> Lined
     ensures { result ≡ on_line instr }
 {
     Lined { line: 1, instr }
@@ -382,5 +383,71 @@ fn a_name_that_lives_twice_is_two_lives(rt: HostRuntime) -> Result<(), Fail> {
     ];
     assert_eq!(rt; events.as_slice(), wants.as_slice());
     assert_eq!(rt; done, Some(0));
+    Ok(())
+}
+
+#[test]
+fn calls_without_links(rt: HostRuntime) -> Result<(), Fail> {
+    let code = calling(rt.alloc())?;
+    let (events, done) = play(rt.alloc(), &code, 100)?;
+    let wants = [
+        (1, Want::Call { fun: 1 }),
+        (1, Want::Call { fun: 2 }),
+        (1, Want::Ret),
+        (1, Want::Call { fun: 2 }),
+        (1, Want::Ret),
+        (1, Want::Ret),
+        (1, Want::Call { fun: 1 }),
+        (1, Want::Call { fun: 2 }),
+        (1, Want::Ret),
+        (1, Want::Call { fun: 2 }),
+        (1, Want::Ret),
+        (1, Want::Ret),
+        (1, Want::Out { value: 9 }),
+    ];
+    assert_eq!(rt; events.as_slice(), wants.as_slice());
+    assert_eq!(rt; done, Some(9));
+    Ok(())
+}
+
+#[test]
+fn a_sum_by_calls_without_links(rt: HostRuntime) -> Result<(), Fail> {
+    let code = summing(rt.alloc())?;
+    let (events, done) = play(rt.alloc(), &code, 100)?;
+    let wants = [
+        (1, Want::Call { fun: 1 }),
+        (1, Want::Call { fun: 1 }),
+        (1, Want::Call { fun: 1 }),
+        (1, Want::Call { fun: 1 }),
+        (1, Want::Ret),
+        (1, Want::Ret),
+        (1, Want::Ret),
+        (1, Want::Ret),
+        (1, Want::Out { value: 6 }),
+    ];
+    assert_eq!(rt; events.as_slice(), wants.as_slice());
+    assert_eq!(rt; done, Some(6));
+    Ok(())
+}
+
+#[test]
+fn an_index_that_the_domain_lacks_is_bad(rt: HostRuntime) -> Result<(), Fail> {
+    let code = sharing(rt.alloc())?;
+    let (events, done) = play(rt.alloc(), &code, 4)?;
+    let wants = [
+        (1, Want::Fork { branches: 2 }),
+        (
+            17,
+            Want::Write {
+                def: DefNo(1),
+                word: 0,
+                value: 7,
+            },
+        ),
+        (18, Want::Call { fun: 1 }),
+        (18, Want::Bad),
+    ];
+    assert_eq!(rt; events.as_slice(), wants.as_slice());
+    assert_eq!(rt; done, None);
     Ok(())
 }
