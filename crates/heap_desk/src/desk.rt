@@ -81,6 +81,23 @@ impl Desk {
         }
     }
 
+    /// Whether `give` takes this word back: word 0, or the first word of a live block.
+    pub fn can_give(&self, word: u32) -> bool
+        ensures { result ≡ can_give self.now word }
+    {
+        word == 0 || place_of(&self.blocks, heap_end(self.size), word).is_some()
+    }
+
+    /// The number that `next_int` will give.
+    pub fn coming(&self) -> i32
+        ensures { result ≡ first_of self.now.rest }
+    {
+        match self.input.get(self.read) {
+            Some(number) => *number,
+            None => 0,
+        }
+    }
+
     /// The next number of the input, 0 at its end.
     pub fn next_int(&mut self) -> i32
         ensures answer { result ≡ first_of self.old.rest }

@@ -1,0 +1,13 @@
+pub mod Answering
+pub mod Keeping
+pub mod Asking
+pub mod Telling
+pub mod Performing
+pub mod Frames
+pub mod Branches
+pub mod Ending
+pub mod Stepping
+pub mod Someone
+pub mod Closing
+pub mod Turning
+pub mod Alike

@@ -1,0 +1,36 @@
+-- The threads with what they share, beside the history of a run.
+use Rattle.std.specs.Prelude.{◌≡◌, ℕ, false, Some, List, ◌∷◌, ℤ}
+use Rattle.tac_ir.specs.declared.run.Answer.{Answer}
+use Rattle.tac_ir.specs.declared.run.Entry.{Entry}
+use Rattle.tac_ir.specs.Module.{Module}
+use Rattle.tac_ir.specs.Answers.{IsAnswer}
+use Rattle.tac_ir.specs.Path.{stops}
+use Rattle.tac_thread.specs.Threads.{Threads, life_in, running}
+use Rattle.tac_thread.specs.declared.flat.FlatStack.{FlatStack}
+use Rattle.flat_path.specs.Wants.{room_in}
+use Rattle.flat_path.specs.Alive.{AreAlive}
+use Rattle.flat_core.specs.declared.ask.Asked.{Asked}
+use Rattle.flat_core.specs.declared.store.Store.{Store}
+use Rattle.flat_core.specs.Asked.{asked_of, entry_of}
+use Rattle.flat_core.specs.Store.{IsStore}
+
+abbrev pub FlatThreads : Type 0
+FlatThreads = Threads ℕ FlatStack
+
+-- the threads are those that live after this history, and what they share is where the run is
+pub record Serves (m : Module) (input : List ℤ) (h : List Entry) (t : FlatThreads) (s : Store) : Type 0 where
+  pub threads : AreAlive m h (life_in t) t.done
+  pub store : IsStore m input h s
+
+-- they serve some run of the module
+abbrev pub IsServing : Module → FlatThreads → Store → Type 0
+IsServing m t s = (input : List ℤ) × (h : List Entry) × Serves m input h t s
+
+-- what thread n asks for
+abbrev pub Asks : Module → FlatThreads → ℕ → Asked → Type 0
+Asks m t n a = asked_of m.code (running (life_in t n)) ≡ Some a
+
+-- what thread n asked for was answered so after the history: where that does not stop the run, all goes on with the entry
+pub record IsPerformed (m : Module) (input : List ℤ) (h : List Entry) (n : ℕ) (a : Asked) (answer : Answer) (t : FlatThreads) (s : Store) : Type 0 where
+  pub answers : IsAnswer m input h n (room_in a.stack) a.op answer
+  pub goes_on : stops answer ≡ false → Serves m input (entry_of n a answer ∷ h) t s

@@ -1,0 +1,5 @@
+pub mod Members
+pub mod Decides
+pub mod Writes
+pub mod Initial
+pub mod LaidOut

@@ -1,0 +1,7 @@
+-- The words of a memory with the classes of their last writers.
+use Rattle.std.specs.Prelude.{ℕ, List}
+
+pub record Words : Type 0 where
+  pub values : List ℕ
+  -- the class of each word's last writer, 0 where there was none
+  pub classes : List ℕ

@@ -1,0 +1,8 @@
+//! The words of a guest's memory, and the class of each word's last writer: what decides each read.
+#![tactic(auto)]
+
+mod areas;
+mod classes;
+mod table;
+
+pub use table::WordTable;
