@@ -1,4 +1,4 @@
-//! The program: `dfi replay FILE INPUT` runs the source in FILE on the input in INPUT.
+//! The program: it hands its words, the files and standard output to the top call, and ends with that call's status.
 #![tactic(auto)]
 
 use dfi_io::{Console, Folder};

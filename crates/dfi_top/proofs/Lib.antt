@@ -1,3 +1,4 @@
+pub mod ManyLoads
+pub mod Onward
 pub mod RunLemmas
-pub mod LoadLemmas
-pub mod ReplyLemmas
+pub mod Replies

@@ -1,5 +1,7 @@
-pub mod Job
 pub mod Texts
+pub mod Loads
 pub mod Reply
-pub mod TopCall
+pub mod Course
+pub mod Checked
 pub mod Stages
+pub mod TopCall

@@ -1,22 +1,33 @@
--- What a call says, by its words and by what its loads gave: the first refusal, or the text of the run.
-use Rattle.std.specs.Prelude.{◌≡◌, ℕ, Option, None, Some, Result, Ok, Err, List, [], ◌∷◌}
+-- What a call says, by its words and by what its loads gave: the first refusal, or the text that was asked for.
+use Rattle.std.specs.Prelude.{◌≡◌, ◌⊎◌, ℕ, ℤ, Option, None, Some, Ok, Err, List, [], ◌∷◌}
+use Rattle.dfi_base.specs.declared.numbers.Name.{Name}
 use Rattle.dfi_io.specs.declared.fault.LoadFault.{LoadFault}
 use Rattle.dfi_io.specs.declared.fault.LoadFault.TheVariants.{Failed, Long, Memory}
 use Rattle.tac_ir.specs.declared.run.End.{End}
 use Rattle.tac_ir.specs.declared.run.Journal.{Journal}
 use Rattle.tac_ir.specs.CoreRun.{LeastRun}
 use Rattle.tac_ir.specs.Lawful.{Lawful}
-use Rattle.tac_ir.specs.Text.{text_of}
-use Rattle.straight_core.specs.Stays.{IsDoneOrAlarm}
-use Rattle.small_front.specs.declared.program.Program.{Program}
-use Rattle.small_front.specs.IsSource.{IsSource}
-use Rattle.small_module.specs.ModuleOf.{module_of}
-use Rattle.dfi_top.specs.Job.{Job}
-use Rattle.dfi_top.specs.Texts.{usage_text, failed_text, long_text, not_built_text}
+use Rattle.tac_ir.specs.Module.{Module}
+use Rattle.tac_ir.specs.Text.{text_of as run_text}
+use Rattle.flat_core.specs.Runs as core
+use Rattle.gen_prog.specs.Program.{text_of as program_text}
+use Rattle.number_lists.specs.Lists.{int_of, name_of, list_of, IsRefusedAt}
+use Rattle.dfi_words.specs.declared.job.Job.{Job}
+use Rattle.dfi_words.specs.declared.job.Job.TheVariants as jobs
+use Rattle.dfi_top.specs.declared.reply.Reply.{Reply}
+use Rattle.dfi_top.specs.declared.stages.Replay.{Replay}
+use Rattle.dfi_build.specs.declared.fault.BuildFault.{BuildFault}
+use Rattle.dfi_build.specs.Builds.{IsFaultOf, IsModuleOf}
+use Rattle.fault_text.specs.FaultText.{text_of as fault_text}
+use Rattle.dfi_top.specs.Texts.{usage_text, failed_text, long_text, input_text, name_bytes_text, names_text}
+use Rattle.dfi_top.specs.Loads.{Loaded, Load}
 
--- what a load gave: the bytes, or why there are none
-abbrev pub Loaded : Type 0
-Loaded = Result (List ℕ) LoadFault
+-- the greatest lengths of a source, and of an input or a list of names, in bytes
+abbrev pub file_limit : ℕ
+file_limit = 67108864
+
+abbrev pub list_limit : ℕ
+list_limit = 16777216
 
 -- there was no run
 abbrev pub NoJournal : Journal → Type 0
@@ -31,50 +42,98 @@ status_of (End.Limit limit) = 5
 status_of End.Cut = 5
 status_of End.NoRun = 0
 
--- a refusal has this status and this text, and no run
-pub record Refuses (wanted : ℕ) (words : List ℕ) (status : ℕ) (text : List ℕ) (j : Journal) : Type 0 where
-  pub status_is : status ≡ wanted
-  pub text_is : text ≡ words
-  pub no_run : NoJournal j
+-- what is said: a text and its status, and the journal of the run
+pub record Said : Type 0 where
+  pub status : ℕ
+  pub text : List ℕ
+  pub journal : Journal
+
+-- what a reply of the code says
+abbrev pub said_by : Reply → Said
+said_by r = record { status = r.status; text = r.text.items; journal = r.journal }
+
+-- a text with this status, and no run
+pub record Says (status : ℕ) (text : List ℕ) (s : Said) : Type 0 where
+  pub status_is : s.status ≡ status
+  pub text_is : s.text ≡ text
+  pub no_run : NoJournal s.journal
 
 -- a load that gave no bytes is refused by its name
-abbrev pub RefusesLoad : List ℕ → LoadFault → ℕ → List ℕ → Journal → Type 0
-RefusesLoad name Failed status text j = Refuses 6 (failed_text name) status text j
-RefusesLoad name Long status text j = Refuses 6 (long_text name) status text j
-RefusesLoad name Memory status text j = ⊥
+abbrev pub RefusesLoad : List ℕ → LoadFault → Said → Type 0
+RefusesLoad name Failed s = Says 6 (failed_text name) s
+RefusesLoad name Long s = Says 6 (long_text name) s
+RefusesLoad name Memory s = ⊥
 
--- these bytes are a source of the straight-line form, of one program
-pub record IsProgram (bytes : List ℕ) (p : Program) : Type 0 where
-  pub source : IsSource bytes p
-  pub only : (q : Program) → IsSource bytes q → q ≡ p
+-- the text of a run of the module, and its status by its end
+pub record TellsRun (m : Module) (s : Said) : Type 0 where
+  pub lawful : Lawful m s.journal
+  pub text_is : s.text ≡ run_text m s.journal
+  pub status_is : s.status ≡ status_of s.journal.end
 
--- the run of a program without input: the one core run of its module along the least runnable names, with 1,000,000 entries at most
-pub record IsRun (p : Program) (status : ℕ) (text : List ℕ) (j : Journal) : Type 0 where
-  pub run : LeastRun (module_of p) [] 1000000 j
-  pub only : (k : Journal) → LeastRun (module_of p) [] 1000000 k → k ≡ j
-  pub lawful : Lawful (module_of p) j
-  pub text_is : text ≡ text_of (module_of p) j
-  pub status_is : status ≡ status_of j.end
-  -- no address past the memory is reached
-  pub ends : IsDoneOrAlarm j.end
+-- the one core run along the least runnable names, up to its end
+pub record RunsByLeast (m : Module) (input : List ℤ) (budget : ℕ) (s : Said) : Type 0 where
+  pub run : LeastRun m input budget s.journal
+  pub only : (k : Journal) → LeastRun m input budget k → k ≡ s.journal
+  pub told : TellsRun m s
 
--- a program runs on no bytes, and any byte is refused
-abbrev pub RepliesToBytes : Program → List ℕ → ℕ → List ℕ → Journal → Type 0
-RepliesToBytes p [] status text j = IsRun p status text j
-RepliesToBytes p (b ∷ bytes) status text j = Refuses 1 not_built_text status text j
+-- the one core run along these names, with an entry for each
+pub record RunsAlong (m : Module) (input : List ℤ) (budget : ℕ) (names : List Name) (s : Said) : Type 0 where
+  pub run : core.IsRunAlong m input budget names s.journal
+  pub only : (k : Journal) → core.IsRunAlong m input budget names k → k ≡ s.journal
+  pub told : TellsRun m s
 
--- behind a good source the input is loaded, and the program is replied to on its bytes
-abbrev pub RepliesTo : Job → Program → Loaded → ℕ → List ℕ → Journal → Type 0
-RepliesTo job p (Err fault) status text j = RefusesLoad job.input fault status text j
-RepliesTo job p (Ok bytes) status text j = RepliesToBytes p bytes status text j
+-- the run along names, or the first of them that is not runnable or follows a stop
+abbrev pub RepliesToTurns : Module → List ℤ → ℕ → List Name → Said → Type 0
+RepliesToTurns m input budget names s =
+    RunsAlong m input budget names s ⊎ ((k : ℕ) × core.IsRefusedAt m input budget names k × Says 1 (names_text k) s)
 
--- The whole reply, in the order of refusals: words, load of the source, its form, load of the input, its bytes. A file
--- that was not reached has no load.
-abbrev pub Replies : Option Job → Option Loaded → Option Loaded → ℕ → List ℕ → Journal → Type 0
-Replies None None None status text j = Refuses 2 usage_text status text j
-Replies (Some job) (Some (Err fault)) None status text j = RefusesLoad job.file fault status text j
-Replies (Some job) (Some (Ok bytes)) None status text j =
-    ((p : Program) → IsSource bytes p → ⊥) × Refuses 1 not_built_text status text j
-Replies (Some job) (Some (Ok bytes)) (Some input) status text j =
-    (p : Program) × IsProgram bytes p × RepliesTo job p input status text j
-Replies job file input status text j = ⊥
+-- The loads are these, in this order: a list of loads is taken from the front, and none may be left.
+
+abbrev pub NamesGave : Module → List ℤ → ℕ → List ℕ → Loaded → Said → Type 0
+NamesGave m input budget name (Err fault) s = RefusesLoad name fault s
+NamesGave m input budget name (Ok bytes) s =
+    ((at : ℕ) × IsRefusedAt name_of bytes at × Says 1 (name_bytes_text at) s)
+    ⊎ ((names : List Name) × (list_of name_of bytes ≡ Some names) × RepliesToTurns m input budget names s)
+
+-- a load of the file of this name within the limit
+abbrev pub IsLoadOf : List ℕ → ℕ → Load → Type 0
+IsLoadOf name limit l = (l.name ≡ name) × (l.limit ≡ limit)
+
+-- Behind the numbers of an input: the names, where a file of names is given, and the run.
+abbrev pub RepliesToNumbers : Module → List ℤ → ℕ → Option (List ℕ) → List Load → Said → Type 0
+RepliesToNumbers m input budget None [] s = RunsByLeast m input budget s
+RepliesToNumbers m input budget (Some name) (l ∷ []) s = IsLoadOf name list_limit l × NamesGave m input budget name l.gave s
+RepliesToNumbers m input budget names loads s = ⊥
+
+-- Behind the load of the input.
+abbrev pub InputGave : Replay → Module → Loaded → List Load → Said → Type 0
+InputGave t m (Err fault) loads s = (loads ≡ []) × RefusesLoad t.input fault s
+InputGave t m (Ok bytes) loads s =
+    ((loads ≡ []) × ((at : ℕ) × IsRefusedAt int_of bytes at × Says 1 (input_text at) s))
+    ⊎ ((numbers : List ℤ) × (list_of int_of bytes ≡ Some numbers) × RepliesToNumbers m numbers t.budget t.names loads s)
+
+abbrev pub RepliesToModule : Replay → Module → List Load → Said → Type 0
+RepliesToModule t m [] s = ⊥
+RepliesToModule t m (l ∷ loads) s = IsLoadOf t.input list_limit l × InputGave t m l.gave loads s
+
+-- Behind the load of the source: its first fault, or its module.
+abbrev pub FileGave : Replay → Loaded → List Load → Said → Type 0
+FileGave t (Err fault) loads s = (loads ≡ []) × RefusesLoad t.file fault s
+FileGave t (Ok bytes) loads s =
+    ((loads ≡ []) × ((fault : BuildFault) × IsFaultOf bytes fault × Says 1 (fault_text bytes fault) s))
+    ⊎ ((m : Module) × IsModuleOf bytes m × RepliesToModule t m loads s)
+
+abbrev pub RepliesToReplay : Replay → List Load → Said → Type 0
+RepliesToReplay t [] s = ⊥
+RepliesToReplay t (l ∷ loads) s = IsLoadOf t.file file_limit l × FileGave t l.gave loads s
+
+-- What is said to a job. The commands that are not there yet are refused like words that ask for nothing.
+abbrev pub RepliesToJob : Job → List Load → Said → Type 0
+RepliesToJob (jobs.Replay file input names budget) loads s =
+    RepliesToReplay (record { file = file; input = input; names = names; budget = budget }) loads s
+RepliesToJob (jobs.Gen n) loads s = (loads ≡ []) × Says 0 (program_text n) s
+RepliesToJob job loads s = (loads ≡ []) × Says 2 usage_text s
+
+abbrev pub Replies : Option Job → List Load → Said → Type 0
+Replies None loads s = (loads ≡ []) × Says 2 usage_text s
+Replies (Some job) loads s = RepliesToJob job loads s

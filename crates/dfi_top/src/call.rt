@@ -1,22 +1,19 @@
-ghost use Rattle.std.specs.Prelude.{◌≡◌, ◌≤◌, ◌<◌, Some, map, string_bytes, length, IfOk};
-ghost use Rattle.dfi_top.specs.Job.{job_of};
-ghost use Rattle.dfi_top.specs.Reply.{RepliesToBytes};
-ghost use Rattle.dfi_top.specs.Stages.{LoadsInput, MayLoad, RepliesToInput, RepliesToSource};
-ghost use Rattle.dfi_top.specs.TopCall.{HandsOver, HasLoaded, Replied, TopCall, file_limit};
-ghost use Rattle.small_front.specs.HasForm.{HasForm};
+ghost use Rattle.std.specs.Prelude.{◌≡◌, ◌<◌, map, string_bytes};
+ghost use Rattle.dfi_words.specs.Reads.{Reads};
+ghost use Rattle.dfi_top.specs.Course.{MayLoad};
+ghost use Rattle.dfi_top.specs.Reply.{RepliesToJob, said_by};
+ghost use Rattle.dfi_top.specs.Stages.{Goes};
+ghost use Rattle.dfi_top.specs.TopCall.{HandsOver, RepliesToWords, TopCall};
 
-use crate::reply::{Reply, no_journal, refuse_bytes, refuse_load, refuse_words, run_program};
-use crate::words::{Job, read_words};
+use crate::refusals::{refuse_words, write_program};
+use crate::reply::Reply;
+use crate::saying::no_journal;
+use crate::stages::{Replay, reply_to_replay};
 use dfi_base::Memory;
 use dfi_io::{Library, Sink};
-use small_front::{Program, SourceFault, read_source};
+use dfi_words::{Job, WordFault, read_words};
 use std::alloc::Global;
 use tac_ir::Journal;
-
-// The greatest lengths of a source and of an input, in bytes.
-const FILE_LIMIT: u64 = 67_108_864;
-
-const INPUT_LIMIT: u64 = 16_777_216;
 
 const WRITE_FAILED: u8 = 7;
 
@@ -30,80 +27,44 @@ pub struct Ended {
     pub journal: Journal,
 }
 
-// What is said of a program on an input.
-fn reply_to_input(alloc: Global, program: &Program, input: &[u8]) -> Result<Reply, Memory>
-    requires { HasForm program.now }
-    ensures { IfOk result (λ r. RepliesToBytes program.now input.now
-        r.status r.text.items r.journal) }
-{
-    if input.is_empty() {
-        run_program(alloc, program)
-    } else {
-        refuse_bytes(alloc)
-    }
-}
-
-// What is said of a program, once its input is loaded.
-fn reply_to_program<L: Library>(
+// What is said to a job.
+fn reply_to_job<L: Library>(
     alloc: Global,
-    job: &Job<'_>,
-    program: &Program,
+    words: &[String],
+    job: Job,
     lib: &mut L,
 ) -> Result<Reply, Memory>
-    requires { HasForm program.now }
-    ensures reply { IfOk result (λ r. RepliesToInput L.told L.faults L.took job.now program.now
-        lib.old lib.new r.status r.text.items r.journal) }
-    ensures loads { LoadsInput L.told L.faults lib.old lib.new }
+    requires { Reads (map string_bytes words.now) job }
+    ensures { Goes said_by L.told L.faults L.took (RepliesToJob job) (MayLoad job) lib.old lib.new result }
 {
-    let input_name = job.input();
-    match lib.load(alloc, input_name, INPUT_LIMIT) {
-        Ok(input) => reply_to_input(alloc, program, &input),
-        Err(fault) => refuse_load(alloc, input_name, fault),
-    }
-}
-
-// What is said of the bytes of a source.
-fn reply_to_source<L: Library>(
-    alloc: Global,
-    job: &Job<'_>,
-    source: &[u8],
-    lib: &mut L,
-) -> Result<Reply, Memory>
-    requires { length source.now ≤ file_limit }
-    ensures reply { IfOk result (λ r. RepliesToSource L.told L.faults L.took job.now source.now
-        lib.old lib.new r.status r.text.items r.journal) }
-    ensures loads { MayLoad L.told L.faults source.now lib.old lib.new }
-{
-    match read_source(alloc, source) {
-        Ok(program) => reply_to_program(alloc, job, &program, lib),
-        Err(SourceFault::NotBuilt) => refuse_bytes(alloc),
-        Err(SourceFault::Memory) => Err(Memory),
-    }
-}
-
-// What is said of a job, once its source is loaded.
-fn reply_to_job<L: Library>(alloc: Global, job: &Job<'_>, lib: &mut L) -> Result<Reply, Memory>
-    ensures reply { IfOk result (λ r. Replied L.told L.faults L.took (Some job.now)
-        lib.old lib.new r.status r.text.items r.journal) }
-    ensures loads { HasLoaded L.told L.faults (Some job.now) lib.old lib.new }
-{
-    let source_name = job.file();
-    match lib.load(alloc, source_name, FILE_LIMIT) {
-        Ok(source) => reply_to_source(alloc, job, &source, lib),
-        Err(fault) => refuse_load(alloc, source_name, fault),
+    match job {
+        Job::Replay {
+            file,
+            input,
+            names,
+            budget,
+        } => {
+            let replay = Replay {
+                file,
+                input,
+                names,
+                budget,
+            };
+            reply_to_replay(alloc, &replay, lib)
+        }
+        Job::Gen { n } => write_program(alloc, n),
+        _ => refuse_words(alloc),
     }
 }
 
 // What is said to these words.
 fn reply_to_words<L: Library>(alloc: Global, words: &[String], lib: &mut L) -> Result<Reply, Memory>
-    ensures reply { IfOk result (λ r. Replied L.told L.faults L.took
-        (job_of (map string_bytes words.now)) lib.old lib.new r.status r.text.items r.journal) }
-    ensures loads { HasLoaded L.told L.faults (job_of (map string_bytes words.now))
-        lib.old lib.new }
+    ensures { RepliesToWords said_by L.told L.faults L.took (map string_bytes words.now) lib.old lib.new result }
 {
-    match read_words(words) {
-        Some(job) => reply_to_job(alloc, &job, lib),
-        None => refuse_words(alloc),
+    match read_words(alloc, words) {
+        Ok(job) => reply_to_job(alloc, words, job, lib),
+        Err(WordFault::Refused) => refuse_words(alloc),
+        Err(WordFault::Memory) => Err(Memory),
     }
 }
 
@@ -124,9 +85,10 @@ fn hand_over<K: Sink>(out: &mut K, reply: Reply) -> Ended
     }
 }
 
-/// Does what the words of a command line ask for: `replay FILE INPUT` runs the source in FILE on
-/// the input in INPUT. The text that answers goes to `out` in one write. The status is that of
-/// the text, 7 where the write failed, or 8 where memory was wanted, and then nothing is written.
+/// Does what the words of a command line ask for: `replay FILE INPUT [NAMES] [--budget B]` runs the source in FILE on the input
+/// in INPUT, along the names in NAMES or the least runnable ones, and `gen N` writes a program. The text that answers goes to
+/// `out` in one write. The status is that of the text, 7 where the write failed, or 8 where memory was wanted, and then nothing
+/// is written.
 pub fn front<L: Library, K: Sink>(
     alloc: Global,
     words: &[String],

@@ -3,10 +3,10 @@
 #![tactic(auto)]
 
 mod call;
+mod refusals;
 mod reply;
-mod words;
+mod runs;
+mod saying;
+mod stages;
 
 pub use call::{Ended, front};
-
-#[cfg(test)]
-mod tests;

@@ -1,0 +1,15 @@
+pub mod Types
+pub mod Marks
+pub mod Whole
+pub mod Faults
+pub mod Parts
+pub mod Tags
+pub mod Exprs
+pub mod Decls
+pub mod Stmts
+pub mod Typed
+pub mod Programs
+pub mod Checks
+pub mod Scopes
+pub mod IsWell
+pub mod TypedIsWell

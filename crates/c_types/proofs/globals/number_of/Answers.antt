@@ -1,0 +1,14 @@
+use Rattle.std.proofs.Common.{rules, Some, ap, sym, ◌∙◌}
+use mir.Facts.{to_z-of_z}
+use mir.Syntax.{w32}
+use mir.Val.{SFits}
+use Rattle.c_types.proofs.StartLaws.{number_there, no_number}
+use Rattle.c_types.proofs.globals.number_of.Goals as goal
+
+pub returns-in-Number : goal.returns-in-Number
+returns-in-Number c =
+    let fits : SFits w32 c.in-Number.k = search rules in
+    ap (λ k. Some k) (to_z-of_z fits) ∙ sym (number_there c.args.e.now.form c.in-Number.k c.in-Number.is)
+
+pub returns-in_default : goal.returns-in_default
+returns-in_default c = sym (no_number c.args.e.now.form c.in_default.not-Number)

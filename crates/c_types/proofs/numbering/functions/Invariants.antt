@@ -1,0 +1,6 @@
+use Rattle.std.proofs.Common.{◌≡◌, drop}
+use Rattle.c_types.specs.OutlineWalk.{numbered, with_function, no_numbers}
+use Rattle.c_types.proofs.numbering.functions.Given as goal
+
+abbrev pub invariant-loop-item : goal.invariant-loop-item
+invariant-loop-item l = numbered with_function l.items no_numbers ≡ numbered with_function (drop l.item-index l.items) l.numbering

@@ -1,0 +1,6 @@
+use Rattle.c_types.specs.DeclWalk.{parameter_walk}
+use Rattle.c_types.proofs.EachLaws.{WentOn}
+use Rattle.c_types.proofs.params.parameters.Given as goal
+
+abbrev pub invariant-loop-p : goal.invariant-loop-p
+invariant-loop-p l = WentOn (parameter_walk l.outline) l.ps l.initial.known l.known l.p-index

@@ -1,0 +1,127 @@
+//! Typed expressions, one node at a time.
+
+ghost use Rattle.std.specs.Prelude.{◌≡◌, IfOk};
+ghost use Rattle.c_typed.specs.declared.types.ExprType.{ExprType};
+ghost use Rattle.c_typed.specs.declared.expr.Form.TheOpen.{Form-F};
+ghost use Rattle.c_typed.specs.Exprs.{made};
+ghost use Rattle.c_types.specs.ExprWalk.{variable_node};
+
+use crate::scopes::{Binding, Home};
+use c_ast::BinaryOp;
+use c_typed::{Expr, ExprType, Form, ObjectType, PrefixOp};
+use sqlite_items::{Boxed, Items};
+use std::alloc::{AllocError, Global};
+
+pub fn number(k: &i32) -> Expr
+    ensures { result ≡ made ExprType.Int (Form-F.Number k.now) }
+{
+    Expr {
+        typing: ExprType::Int,
+        form: Form::Number(*k),
+    }
+}
+
+pub fn null() -> Expr
+    ensures { result ≡ made ExprType.Null Form-F.Null }
+{
+    Expr {
+        typing: ExprType::Null,
+        form: Form::Null,
+    }
+}
+
+/// What stands at a scalar place.
+pub fn read(alloc: Global, typing: ExprType, place: Expr) -> Result<Expr, AllocError>
+    ensures { IfOk result (λ e. e ≡ made typing (Form-F.Read place)) }
+{
+    Ok(Expr {
+        typing,
+        form: Form::Read(Boxed::new(alloc, place)?),
+    })
+}
+
+/// The pointer to an array's first item.
+pub fn decay(alloc: Global, typing: ExprType, place: Expr) -> Result<Expr, AllocError>
+    ensures { IfOk result (λ e. e ≡ made typing (Form-F.Decay place)) }
+{
+    Ok(Expr {
+        typing,
+        form: Form::Decay(Boxed::new(alloc, place)?),
+    })
+}
+
+pub fn address(alloc: Global, object: ObjectType, place: Expr) -> Result<Expr, AllocError>
+    ensures { IfOk result (λ e. e ≡ made (ExprType.Pointer object) (Form-F.Address place)) }
+{
+    Ok(Expr {
+        typing: ExprType::Pointer(object),
+        form: Form::Address(Boxed::new(alloc, place)?),
+    })
+}
+
+pub fn deref(alloc: Global, object: ObjectType, pointer: Expr) -> Result<Expr, AllocError>
+    ensures { IfOk result (λ e. e ≡ made (ExprType.Place object) (Form-F.Deref pointer)) }
+{
+    Ok(Expr {
+        typing: ExprType::Place(object),
+        form: Form::Deref(Boxed::new(alloc, pointer)?),
+    })
+}
+
+pub fn prefix(alloc: Global, op: PrefixOp, operand: Expr) -> Result<Expr, AllocError>
+    ensures { IfOk result (λ e. e ≡ made ExprType.Int (Form-F.Prefix op operand)) }
+{
+    Ok(Expr {
+        typing: ExprType::Int,
+        form: Form::Prefix {
+            op,
+            operand: Boxed::new(alloc, operand)?,
+        },
+    })
+}
+
+pub fn index(
+    alloc: Global,
+    object: ObjectType,
+    pointer: Expr,
+    index: Expr,
+) -> Result<Expr, AllocError>
+    ensures { IfOk result (λ e. e ≡ made (ExprType.Place object) (Form-F.Index pointer index)) }
+{
+    let pointer = Boxed::new(alloc, pointer)?;
+    let index = Boxed::new(alloc, index)?;
+    Ok(Expr {
+        typing: ExprType::Place(object),
+        form: Form::Index { pointer, index },
+    })
+}
+
+pub fn binary(
+    alloc: Global,
+    typing: ExprType,
+    left: Expr,
+    op: BinaryOp,
+    right: Expr,
+) -> Result<Expr, AllocError>
+    ensures { IfOk result (λ e. e ≡ made typing (Form-F.Binary left op right)) }
+{
+    let left = Boxed::new(alloc, left)?;
+    let right = Boxed::new(alloc, right)?;
+    Ok(Expr {
+        typing,
+        form: Form::Binary { left, op, right },
+    })
+}
+
+pub fn variable(alloc: Global, binding: &Binding) -> Result<Expr, AllocError>
+    ensures { IfOk result (λ e. e ≡ variable_node binding.now) }
+{
+    let form = match binding.home {
+        Home::Global => Form::Global(binding.number),
+        Home::Local => Form::Local(binding.number),
+    };
+    Ok(Expr {
+        typing: ExprType::Place(binding.object.copy(alloc)?),
+        form,
+    })
+}

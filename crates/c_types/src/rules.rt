@@ -1,0 +1,148 @@
+//! What an operator makes of operands that are whole.
+
+ghost use Rattle.std.specs.Prelude.{◌≡◌, IfOk};
+ghost use Rattle.c_typed.specs.Faults as faults;
+ghost use Rattle.c_typed.specs.Exprs as defined;
+ghost use Rattle.c_types.specs.ExprWalk.{cast};
+ghost use Rattle.c_types.specs.Steps.{Finds, kept};
+
+use crate::nodes;
+use crate::operators::binary_type;
+use c_ast::BinaryOp;
+use c_typed::{Expr, ExprType, ObjectType, PrefixOp, TypeFault};
+use dfi_base::Line;
+use std::alloc::{AllocError, Global};
+
+/// The value of an expression.
+pub fn value(alloc: Global, line: Line, e: Expr) -> Result<Expr, TypeFault>
+    ensures { Finds result (kept faults.mismatch line (defined.value_by_type e e.typing)) }
+{
+    let ExprType::Place(object) = &e.typing else {
+        return Ok(e);
+    };
+    let is_array = !object.lengths.is_empty();
+    let Some(typing) = object.value(alloc)? else {
+        return Err(TypeFault::Mismatch { line });
+    };
+    if is_array {
+        Ok(nodes::decay(alloc, typing, e)?)
+    } else {
+        Ok(nodes::read(alloc, typing, e)?)
+    }
+}
+
+/// The expression as a place.
+pub fn place(line: Line, e: Expr) -> Result<Expr, TypeFault>
+    ensures { Finds result (kept faults.not_lvalue line (defined.place_by_type e e.typing)) }
+{
+    if matches!(e.typing, ExprType::Place(_)) {
+        Ok(e)
+    } else {
+        Err(TypeFault::NotLvalue { line })
+    }
+}
+
+/// `+e`
+pub fn plus(line: Line, e: Expr) -> Result<Expr, TypeFault>
+    ensures { Finds result (kept faults.mismatch line (defined.plus e e.typing)) }
+{
+    if matches!(e.typing, ExprType::Int) {
+        Ok(e)
+    } else {
+        Err(TypeFault::Mismatch { line })
+    }
+}
+
+/// `-e` and `~e`
+pub fn int_prefix(alloc: Global, line: Line, op: PrefixOp, e: Expr) -> Result<Expr, TypeFault>
+    ensures { Finds result (kept faults.mismatch line (defined.int_prefix op e e.typing)) }
+{
+    if matches!(e.typing, ExprType::Int) {
+        Ok(nodes::prefix(alloc, op, e)?)
+    } else {
+        Err(TypeFault::Mismatch { line })
+    }
+}
+
+/// `!e`
+pub fn negation(alloc: Global, line: Line, e: Expr) -> Result<Expr, TypeFault>
+    ensures { Finds result (kept faults.mismatch line (defined.negation e)) }
+{
+    if e.typing.is_truth() {
+        Ok(nodes::prefix(alloc, PrefixOp::Not, e)?)
+    } else {
+        Err(TypeFault::Mismatch { line })
+    }
+}
+
+/// `*e`
+pub fn pointed_at(alloc: Global, line: Line, e: Expr) -> Result<Expr, TypeFault>
+    ensures { Finds result (kept faults.mismatch line (defined.pointed_at e e.typing)) }
+{
+    let ExprType::Pointer(object) = &e.typing else {
+        return Err(TypeFault::Mismatch { line });
+    };
+    let object = object.copy(alloc)?;
+    Ok(nodes::deref(alloc, object, e)?)
+}
+
+/// `&e`
+pub fn address(alloc: Global, line: Line, e: Expr) -> Result<Expr, TypeFault>
+    ensures { Finds result (kept faults.mismatch line (defined.address e e.typing)) }
+{
+    let ExprType::Place(object) = &e.typing else {
+        return Err(TypeFault::Mismatch { line });
+    };
+    if !object.lengths.is_empty() {
+        return Err(TypeFault::Mismatch { line });
+    }
+    let object = object.copy(alloc)?;
+    Ok(nodes::address(alloc, object, e)?)
+}
+
+/// `e[i]`
+pub fn item_at(alloc: Global, line: Line, pointer: Expr, index: Expr) -> Result<Expr, TypeFault>
+    ensures { Finds result (kept faults.mismatch line (defined.item_at pointer index pointer.typing index.typing)) }
+{
+    let ExprType::Pointer(object) = &pointer.typing else {
+        return Err(TypeFault::Mismatch { line });
+    };
+    if !matches!(index.typing, ExprType::Int) {
+        return Err(TypeFault::Mismatch { line });
+    }
+    let object = object.copy(alloc)?;
+    Ok(nodes::index(alloc, object, pointer, index)?)
+}
+
+/// An operator between two operands.
+pub fn binary(
+    alloc: Global,
+    line: Line,
+    op: BinaryOp,
+    left: Expr,
+    right: Expr,
+) -> Result<Expr, TypeFault>
+    ensures { Finds result (kept faults.mismatch line (defined.binary op left right)) }
+{
+    let Some(typing) = binary_type(alloc, op, &left.typing, &right.typing)? else {
+        return Err(TypeFault::Mismatch { line });
+    };
+    Ok(nodes::binary(alloc, typing, left, op, right)?)
+}
+
+/// A cast, which only stands before a call of `malloc`.
+pub fn cast(
+    alloc: Global,
+    line: Line,
+    allocates: bool,
+    object: ObjectType,
+    e: Expr,
+) -> Result<Expr, TypeFault>
+    ensures { Finds result (kept faults.mismatch line (cast allocates object e)) }
+{
+    if allocates && object.takes(alloc, &e.typing) {
+        Ok(e)
+    } else {
+        Err(TypeFault::Mismatch { line })
+    }
+}

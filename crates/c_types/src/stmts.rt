@@ -1,0 +1,212 @@
+//! Statements of the source, form by form (C99 6.8, and `par`).
+
+ghost use Rattle.std.specs.Prelude.{◌≡◌};
+ghost use Rattle.c_typed.specs.declared.stmt.Stmt.TheOpen.{Stmt-F};
+ghost use Rattle.c_typed.specs.Stmts as defined;
+ghost use Rattle.c_types.specs.Steps.{Finds, Leaves};
+ghost use Rattle.c_types.specs.StmtWalk as walk;
+
+use crate::decls::local_decl;
+use crate::known::{Around, Known};
+use crate::outline::Outline;
+use crate::{exprs, sentences};
+use c_ast::{Expr as SourceExpr, ForStart, Simple};
+use c_typed::{Condition, Expr, Stmt, TypeFault};
+use dfi_base::Line;
+use sqlite_items::{Boxed, Items};
+use std::alloc::Global;
+
+/// A condition, an `int` or a pointer.
+pub fn condition(
+    alloc: Global,
+    outline: &Outline,
+    known: &Known,
+    e: &SourceExpr,
+) -> Result<Condition, TypeFault>
+    ensures { Finds result (walk.condition_walk outline.now known.now e.now) }
+{
+    let value = exprs::value(alloc, outline, known, e)?;
+    sentences::tested(e.line, value)
+}
+
+pub fn condition_there(
+    alloc: Global,
+    outline: &Outline,
+    known: &Known,
+    e: &Option<SourceExpr>,
+) -> Result<Option<Condition>, TypeFault>
+    ensures { Finds result (walk.condition_there_walk outline.now known.now e.now) }
+{
+    match e {
+        None => Ok(None),
+        Some(e) => Ok(Some(condition(alloc, outline, known, e)?)),
+    }
+}
+
+/// A simple statement.
+pub fn simple(
+    alloc: Global,
+    outline: &Outline,
+    known: &Known,
+    s: &Simple,
+) -> Result<Stmt, TypeFault>
+    ensures { Finds result (walk.simple_walk outline.now known.now s.now) }
+{
+    match s {
+        Simple::Assign {
+            line,
+            target,
+            op,
+            value,
+        } => {
+            let target = exprs::place(alloc, outline, known, target)?;
+            let value = exprs::value(alloc, outline, known, value)?;
+            sentences::assigned(alloc, *line, *op, target, value)
+        }
+        Simple::Increment { line, target } | Simple::PreIncrement { line, target } => {
+            let target = exprs::place(alloc, outline, known, target)?;
+            sentences::incremented(alloc, *line, target)
+        }
+        Simple::Decrement { line, target } | Simple::PreDecrement { line, target } => {
+            let target = exprs::place(alloc, outline, known, target)?;
+            sentences::decremented(alloc, *line, target)
+        }
+        Simple::Call {
+            function,
+            arguments,
+        } => {
+            let line = function.line;
+            let call = exprs::call(alloc, outline, known, line, *function, arguments.as_slice())?;
+            Ok(Stmt::Call { line, call })
+        }
+    }
+}
+
+fn value_there(
+    alloc: Global,
+    outline: &Outline,
+    known: &Known,
+    e: &Option<SourceExpr>,
+) -> Result<Option<Expr>, TypeFault>
+    ensures { Finds result (walk.value_there_walk outline.now known.now e.now) }
+{
+    match e {
+        None => Ok(None),
+        Some(e) => Ok(Some(exprs::value(alloc, outline, known, e)?)),
+    }
+}
+
+/// A `return`: inside a branch it is told before faults of its value, but behind a value of another type.
+pub fn returned(
+    alloc: Global,
+    outline: &Outline,
+    known: &Known,
+    line: Line,
+    in_branch: bool,
+    e: &Option<SourceExpr>,
+) -> Result<Stmt, TypeFault>
+    ensures { Finds result
+        (walk.returned line in_branch known.now.frame.result
+        (walk.value_there_walk outline.now known.now e.now)) }
+{
+    match value_there(alloc, outline, known, e) {
+        Ok(value) => {
+            let s = sentences::returned(alloc, line, &known.frame.result, value)?;
+            if in_branch {
+                Err(TypeFault::Escape { line })
+            } else {
+                Ok(s)
+            }
+        }
+        Err(TypeFault::Memory) => Err(TypeFault::Memory),
+        Err(e) => Err(if in_branch {
+            TypeFault::Escape { line }
+        } else {
+            e
+        }),
+    }
+}
+
+/// `break`: a loop stands round it, and no branch between.
+pub fn break_loop(around: Around, line: Line) -> Result<Stmt, TypeFault>
+    ensures { Finds result (walk.within_loop line (Stmt-F.Break line) around) }
+{
+    if around.in_loop {
+        Ok(Stmt::Break { line })
+    } else {
+        Err(TypeFault::Escape { line })
+    }
+}
+
+/// `continue`, as `break`.
+pub fn continue_loop(around: Around, line: Line) -> Result<Stmt, TypeFault>
+    ensures { Finds result (walk.within_loop line (Stmt-F.Continue line) around) }
+{
+    if around.in_loop {
+        Ok(Stmt::Continue { line })
+    } else {
+        Err(TypeFault::Escape { line })
+    }
+}
+
+/// The empty statement.
+pub fn empty(alloc: Global) -> Stmt
+    ensures { result ≡ defined.empty }
+{
+    Stmt::Block(Items::new(alloc))
+}
+
+/// The first part of a `for`, before it is boxed.
+fn first_part(
+    alloc: Global,
+    outline: &Outline,
+    known: &mut Known,
+    first: &ForStart,
+) -> Result<Stmt, TypeFault>
+    ensures { Leaves result known.new (walk.start_walk outline.now first.now known.old) }
+{
+    match first {
+        ForStart::Decl(d) => local_decl(alloc, outline, known, d),
+        ForStart::Simple(None) => Ok(empty(alloc)),
+        ForStart::Simple(Some(s)) => simple(alloc, outline, known, s),
+    }
+}
+
+/// The first part of a `for`.
+pub fn start(
+    alloc: Global,
+    outline: &Outline,
+    known: &mut Known,
+    first: &ForStart,
+) -> Result<Boxed<Stmt>, TypeFault>
+    ensures { Leaves result known.new (walk.start_walk outline.now first.now known.old) }
+{
+    Ok(Boxed::new(alloc, first_part(alloc, outline, known, first)?)?)
+}
+
+/// The last part of a `for`, before it is boxed.
+fn last_part(
+    alloc: Global,
+    outline: &Outline,
+    known: &Known,
+    last: &Option<Simple>,
+) -> Result<Stmt, TypeFault>
+    ensures { Finds result (walk.step_walk outline.now known.now last.now) }
+{
+    match last {
+        None => Ok(empty(alloc)),
+        Some(s) => simple(alloc, outline, known, s),
+    }
+}
+
+/// The last part of a `for`.
+pub fn step(
+    alloc: Global,
+    outline: &Outline,
+    known: &Known,
+    last: &Option<Simple>,
+) -> Result<Boxed<Stmt>, TypeFault>
+    ensures { Finds result (walk.step_walk outline.now known.now last.now) }
+{
+    Ok(Boxed::new(alloc, last_part(alloc, outline, known, last)?)?)
+}

@@ -1,0 +1,8 @@
+//! From the bytes of a source to its module, or to its first fault.
+#![tactic(auto)]
+
+mod build_source;
+mod fault;
+
+pub use build_source::build;
+pub use fault::BuildFault;

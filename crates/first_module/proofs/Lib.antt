@@ -1,0 +1,12 @@
+pub mod OnceLemmas
+pub mod AscendLemmas
+pub mod ReaderLemmas
+pub mod NumberLemmas
+pub mod ClassLemmas
+pub mod StepLemmas
+pub mod TrailLemmas
+pub mod EveryLemmas
+pub mod LineLemmas
+pub mod CountLemmas
+pub mod FormLemmas
+pub mod Samples

@@ -1,8 +1,0 @@
-use Rattle.std.proofs.Common.{◌≡◌, ◌+◌, ◌++◌, drop, length, replicate}
-use Rattle.straight_core.specs.Memory.{cells_of, area_words}
-use Rattle.straight_core.proofs.memory.classes_of.Given as goal
-
-abbrev pub invariant-loop-area : goal.invariant-loop-area
-invariant-loop-area l =
-    (l.cells.items ++ cells_of (λ a. a.class) (drop l.area-index l.areas) ≡ replicate 16 0 ++ cells_of (λ a. a.class) l.areas)
-    × (length l.cells.items + area_words (drop l.area-index l.areas) ≡ 16 + area_words l.areas)

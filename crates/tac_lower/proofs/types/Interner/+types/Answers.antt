@@ -1,0 +1,36 @@
+use Rattle.std.proofs.Common.{◌≡◌, ◌∙◌, [], Some, ap, arith, length, refl, subst, sym}
+use Rattle.std.proofs.lemmas.Option.{slice_get_read}
+use Rattle.std.proofs.lemmas.Result.{IfOk-weaker}
+use Rattle.tac_lower.specs.Shapes.{Entry, array_entry, base_entry, object_entry, part_entries}
+use Rattle.tac_lower.specs.Interning.{Entered, Enters, first_structs}
+use Rattle.tac_lower.proofs.InternedLists.{arrays_entered, struct_hidden, struct_known, struct_entered}
+use Rattle.tac_lower.proofs.types.Interner.+types.Goals as goal
+
+pub object-returns : goal.object-returns
+object-returns t c =
+    let S = first_structs c.args.structs.now c.args.limit in
+    let begun : Entry = record { shapes = c.base.new.self.shapes; number = c.in_ok-item.item } in
+    IfOk-weaker c.arrays.result (λ n. array_entry c.as_slice.result.now begun ≡ record { shapes = c.arrays.new.self; number = n })
+    (λ n. Enters c.args.structs.now (object_entry S c.args.object.now) c.args.self.now (record { shapes = c.arrays.new.self; known = c.base.new.self.known }) n)
+    (λ n is. arrays_entered c.args.structs.now (base_entry S c.args.object.now.base c.args.object.now.stars) c.args.object.now.lengths c.args.self.now c.base.new.self c.arrays.new.self c.in_ok-item.item n c.in_ok-item.ensures
+    (ap (λ ls. array_entry ls begun) (sym c.as_slice.ensures) ∙ is))
+    c.arrays.ensures
+
+pub struct_number-returns-then-number-limit : goal.struct_number-returns-then-number-limit
+struct_number-returns-then-number-limit t c = struct_hidden c.args.structs.now c.args.limit c.args.number c.args.self.now c.if-number-limit.true c.requires.kept
+
+pub struct_number-returns-in-Some : goal.struct_number-returns-in-Some
+struct_number-returns-in-Some t c =
+    struct_known c.args.structs.now c.args.limit c.args.number c.in-Some.known c.args.self.now c.if-number-limit.false c.requires.limit
+    (slice_get_read c.args.self.now.known.items (length c.args.self.now.known.items) c.args.number c.index.result.now refl (let few = c.requires.kept.count in let l = c.requires.limit in let n = c.if-number-limit.false in omega arith) c.index.ensures ∙ ap Some c.in-Some.is) c.requires.kept
+
+pub struct_number-returns : goal.struct_number-returns
+struct_number-returns t c =
+    let s = c.index-structs-number.result in
+    let parts = c.in_ok-parts.parts.items in
+    let fields = c.as_slice-fields.ensures ∙ ap (λ s. s.fields) (sym c.index-structs-number.is) in
+    let S = first_structs c.args.structs.now c.args.number in
+    let first = subst (λ ts. Entered c.args.structs.now (λ shapes. (part_entries S [] ts shapes).shapes) (λ shapes. (part_entries S [] ts shapes).numbers) c.args.self.now c.parts.new.self parts) fields c.in_ok-parts.ensures in
+    struct_entered c.args.structs.now c.args.limit c.args.number c.in_ok-shape.shape s c.args.self.now c.parts.new.self
+    (record { shapes = c.number.new.self; known = _ }) parts c.number.new.self c.if-number-limit.false c.requires.limit c.index-structs-number.is
+    first c.in_ok-shape.ensures refl refl

@@ -1,0 +1,27 @@
+use Rattle.std.proofs.Common.{rules, ◌≡◌, ℕ, Result, Ok, Err, true, false, refl, ap, sym, ◌∙◌, subst}
+use Rattle.tac_lower.specs.declared.draft.Ends.{Ends}
+use Rattle.tac_lower.specs.declared.plan.Plan.{Plan}
+use Rattle.tac_ir.specs.declared.code.UnOp.{UnOp}
+use Rattle.tac_ir.specs.declared.code.BinOp.{BinOp}
+use Rattle.c_typed.specs.declared.expr.PrefixOp.{PrefixOp}
+use Rattle.tac_lower.specs.Parts.{given}
+use Rattle.tac_lower.specs.Instrs.{null, same, index, prefixed, computed}
+use Rattle.tac_lower.specs.Emits.{Emits}
+use Rattle.tac_lower.specs.Values.{against_null, truth_by, truth_as, negation, prefix, carried, is_int}
+use Rattle.tac_lower.proofs.Chains.{follow, stopped}
+use Rattle.tac_lower.proofs.writer.Writer.carry.Goals as goal
+
+pub returns-in-Compute : goal.returns-in-Compute
+returns-in-Compute c = λ ends. rw (c.in-Compute.is) (c.fresh.ensures ends)
+
+pub returns-in-Move : goal.returns-in-Move
+returns-in-Move c = λ ends. rw (c.in-Move.is) (c.index.ensures ends)
+
+pub returns-in-MoveRight : goal.returns-in-MoveRight
+returns-in-MoveRight c = λ ends. rw (c.in-MoveRight.is) (c.index-in-MoveRight.ensures ends)
+
+pub returns-in-MoveBack : goal.returns-in-MoveBack
+returns-in-MoveBack c = λ ends. rw (c.in-MoveBack.is) (c.back.ensures ends)
+
+pub returns-in-Compare : goal.returns-in-Compare
+returns-in-Compare c = λ ends. rw (c.in-Compare.is) (c.same.ensures ends)

@@ -1,0 +1,8 @@
+use Rattle.tac_lower.proofs.Chains.{nothing}
+use Rattle.tac_lower.proofs.writer.Writer.guard.Goals as goal
+
+pub returns-in-None : goal.returns-in-None
+returns-in-None c = λ in_main ends. rw (c.in-None.is) (nothing 0 ends c.args.self.now)
+
+pub returns-in-Some : goal.returns-in-Some
+returns-in-Some c = λ in_main ends. rw (c.in-Some.is) (c.condition.ensures ends)

@@ -1,0 +1,21 @@
+use Rattle.std.proofs.Common.{rules, ◌≡◌, ℕ, Result, Ok, Err, true, false, refl, ap, sym, ◌∙◌, subst}
+use Rattle.tac_lower.specs.declared.draft.Ends.{Ends}
+use Rattle.tac_lower.specs.declared.plan.Plan.{Plan}
+use Rattle.tac_ir.specs.declared.code.UnOp.{UnOp}
+use Rattle.tac_ir.specs.declared.code.BinOp.{BinOp}
+use Rattle.c_typed.specs.declared.expr.PrefixOp.{PrefixOp}
+use Rattle.tac_lower.specs.Parts.{given}
+use Rattle.tac_lower.specs.Instrs.{null, same, index, prefixed, computed}
+use Rattle.tac_lower.specs.Emits.{Emits}
+use Rattle.tac_lower.specs.Values.{against_null, truth_by, truth_as, negation, prefix, carried, is_int}
+use Rattle.tac_lower.proofs.Chains.{follow, stopped}
+use Rattle.tac_lower.proofs.writer.Writer.prefix.Goals as goal
+
+pub returns-in-Minus : goal.returns-in-Minus
+returns-in-Minus c = λ ends. rw (c.in-Minus.is) (c.prefixed.ensures ends)
+
+pub returns-in-Complement : goal.returns-in-Complement
+returns-in-Complement c = λ ends. rw (c.in-Complement.is) (c.prefixed-in-Complement.ensures ends)
+
+pub returns-in-Not : goal.returns-in-Not
+returns-in-Not c = λ ends. rw (c.in-Not.is) (subst (λ b. Emits (negation c.args.line b c.args.a) ends c.args.self.now c.negation.new.self c.negation.result) c.is_int.ensures (c.negation.ensures ends))

@@ -1,0 +1,23 @@
+use Rattle.std.proofs.Common.{rules, ◌≡◌, ℕ, ℤ, pos, Result, Ok, Err, true, false, refl, ap, sym, ◌∙◌, subst}
+use Rattle.std.proofs.Math.Facts.{to_z-of_z}
+use Rattle.tac_ir.specs.declared.code.Instr.{Instr}
+use Rattle.tac_lower.specs.declared.draft.Ends.{Ends}
+use Rattle.tac_lower.specs.declared.plan.Plan.{Plan}
+use Rattle.tac_lower.specs.declared.writer.Spot.{Spot}
+use Rattle.tac_lower.specs.Parts.{given, ◌▷◌, ◌⨟◌}
+use Rattle.tac_lower.specs.Instrs as spec
+use Rattle.tac_lower.specs.Emits.{Emits, Yields, spots, at_spot, part_at}
+use Rattle.tac_lower.specs.Values.{settled, object_of}
+use Rattle.tac_lower.proofs.Chains.{follow, stopped, leaves, nothing}
+use Rattle.tac_lower.proofs.writer.Writer.zero_again.Goals as goal
+
+pub returns-in_err-quiet : goal.returns-in_err-quiet
+returns-in_err-quiet c = λ ends.
+    let told : c.from_residual.result ≡ Err c.in_err-quiet.field-0.0 = search rules in
+    subst (λ r. Emits (spec.zero_again c.args.line c.args.to) ends c.args.self.now c.quiet.new.self r) (sym told)
+    (stopped 0 (spec.quiet c.args.line (λ at. Instr.Const c.args.to (pos 0))) (λ x. given c.args.to) ends c.args.self.now c.quiet.new.self c.in_err-quiet.field-0.0 (c.in_err-quiet.ensures ends))
+
+pub returns : goal.returns
+returns c = λ ends.
+    follow 0 (spec.quiet c.args.line (λ at. Instr.Const c.args.to (pos 0))) (λ x. given c.args.to) ends c.args.self.now c.quiet.new.self c.quiet.new.self c.in_ok-quiet.field-0 (Ok c.args.to)
+    (λ x. refl) (c.in_ok-quiet.ensures ends) (nothing c.args.to ends c.quiet.new.self)

@@ -1,0 +1,15 @@
+pub mod Parts
+pub mod Instrs
+pub mod Values
+pub mod Stmts
+pub mod Functions
+pub mod Shapes
+pub mod CodeOf
+pub mod Limits
+pub mod Lowers
+pub mod Emits
+pub mod Keys
+pub mod Interning
+pub mod Counting
+pub mod Drafted
+pub mod Nested

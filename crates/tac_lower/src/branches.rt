@@ -1,0 +1,112 @@
+//! `par` blocks.
+
+ghost use Rattle.std.specs.Prelude.{map};
+ghost use Rattle.tac_lower.specs.Emits.{Emits, Counts};
+ghost use Rattle.tac_lower.specs.Nested.{Forks, branch, closed};
+ghost use Rattle.tac_lower.specs.Parts.{in_turn};
+ghost use Rattle.tac_lower.specs.Stmts as spec;
+
+use crate::draft::Ends;
+use crate::stmts::NO_LOOP;
+use crate::writer::{Stop, Writer};
+use c_typed::{Branch, Stmt, Struct};
+use sqlite_items::Items;
+use std::alloc::Global;
+use tac_ir::Instr;
+
+impl Writer {
+    #[cycle(stmts)]
+    pub(crate) fn par(
+        &mut self,
+        alloc: Global,
+        structs: &[Struct],
+        in_main: bool,
+        ends: Ends,
+        line: u32,
+        branches: &[Branch<Stmt>],
+    ) -> Result<u32, Stop>
+        ensures { Emits (spec.branches line (map (branch (spec.around_by structs.now in_main)) branches.now)) ends self.old self.new result }
+    {
+        let fork = self.fork(alloc, structs, in_main, branches)?;
+        self.quiet(line, fork)?;
+        self.branches(alloc, structs, in_main, ends, branches)
+    }
+
+    /// The fork in front of these branches. That of a dry run is not kept.
+    #[cycle(stmts)]
+    fn fork(
+        &self,
+        alloc: Global,
+        structs: &[Struct],
+        in_main: bool,
+        branches: &[Branch<Stmt>],
+    ) -> Result<Instr, Stop>
+        ensures { Forks (map (branch (spec.around_by structs.now in_main)) branches.now) self.now result }
+    {
+        let mut entries = Items::new(alloc);
+        let mut join = self.next.at + 1;
+        if self.dry {
+            return Ok(Instr::Fork { join, entries });
+        }
+        for b in branches {
+            entries.push(join)?;
+            let points = self.branch_points(alloc, structs, in_main, &b.body, b.close.0)?;
+            join += points;
+            if join > self.room {
+                return Err(Stop::Full);
+            }
+        }
+        Ok(Instr::Fork { join, entries })
+    }
+
+    /// How many instructions a branch will have.
+    #[cycle(stmts)]
+    fn branch_points(
+        &self,
+        alloc: Global,
+        structs: &[Struct],
+        in_main: bool,
+        body: &Items<Stmt>,
+        close: u32,
+    ) -> Result<u32, Stop>
+        ensures { Counts (closed (spec.around_by structs.now in_main) body.now close) self.now result }
+    {
+        let mut run = self.dry_run(alloc);
+        run.branch(alloc, structs, in_main, NO_LOOP, body, close)?;
+        Ok(run.next.at - self.next.at)
+    }
+
+    /// A branch, with its end.
+    #[cycle(stmts)]
+    fn branch(
+        &mut self,
+        alloc: Global,
+        structs: &[Struct],
+        in_main: bool,
+        ends: Ends,
+        body: &Items<Stmt>,
+        close: u32,
+    ) -> Result<u32, Stop>
+        ensures { Emits (closed (spec.around_by structs.now in_main) body.now close) ends self.old self.new result }
+    {
+        self.stmts(alloc, structs, in_main, ends, body.as_slice())?;
+        self.quiet(close, Instr::End)
+    }
+
+    #[cycle(stmts)]
+    fn branches(
+        &mut self,
+        alloc: Global,
+        structs: &[Struct],
+        in_main: bool,
+        ends: Ends,
+        branches: &[Branch<Stmt>],
+    ) -> Result<u32, Stop>
+        ensures { Emits (in_turn (map (branch (spec.around_by structs.now in_main)) branches.now)) ends self.old self.new result }
+    {
+        for b in branches {
+            self.branch(alloc, structs, in_main, ends, &b.body, b.close.0)?;
+        }
+        Ok(0)
+    }
+}

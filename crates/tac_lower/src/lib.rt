@@ -1,0 +1,26 @@
+//! Three-address code of typed programs. `specs/` has what it is.
+#![tactic(auto)]
+
+mod branches;
+mod draft;
+mod fault;
+mod finish;
+mod flow;
+mod functions;
+mod limits;
+mod logic;
+mod lowering;
+mod needs;
+mod operators;
+mod places;
+mod plan;
+mod progress;
+mod shapes;
+mod stmts;
+mod types;
+mod values;
+mod writer;
+mod writes;
+
+pub use fault::{LowerFault, LowerWhat};
+pub use lowering::lower;

@@ -1,0 +1,321 @@
+//! Assignments, returns and conditions.
+
+ghost use Rattle.std.specs.Prelude.{pos, ◌≡◌, ◌≤◌, IfOk, MatchResult};
+ghost use Rattle.tac_lower.specs.declared.draft.Ends.{Ends};
+ghost use Rattle.tac_lower.specs.declared.writer.Stop.{Stop};
+ghost use Rattle.tac_lower.specs.Emits.{Emits, at_spot, write_at, changed};
+ghost use Rattle.tac_lower.specs.Instrs as spec;
+ghost use Rattle.tac_lower.specs.Parts.{chained};
+ghost use Rattle.tac_lower.specs.Stmts as stmts;
+ghost use Rattle.tac_lower.specs.Values.{expr, value, truth, carried, struct_sizes};
+
+use crate::draft::Draft;
+use crate::plan::{Plan, difference, sum};
+use crate::writer::{A_DEF, A_READ, Spot, Stop, Writer};
+use c_ast::AssignOp;
+use c_typed::{BaseType, Condition, Expr, ExprType, ObjectType, Struct};
+use sqlite_items::Items;
+use std::alloc::{AllocError, Global};
+use tac_ir::{BinOp, Instr, Place};
+
+/// The type of what stands at a place: `int`, or a pointer.
+fn scalar_at(alloc: Global, typing: &ExprType) -> ExprType
+    ensures { result ≡ stmts.scalar_at typing.now }
+{
+    match typing {
+        ExprType::Place(object) => scalar(alloc, object),
+        ExprType::Pointer(object) => scalar(alloc, object),
+        _ => ExprType::Int,
+    }
+}
+
+fn scalar(alloc: Global, object: &ObjectType) -> ExprType
+    ensures { result ≡ stmts.scalar_of object.now }
+{
+    if object.stars > 0 && object.lengths.is_empty() {
+        ExprType::Pointer(ObjectType {
+            base: object.base,
+            stars: object.stars - 1,
+            lengths: Items::new(alloc),
+        })
+    } else {
+        ExprType::Int
+    }
+}
+
+fn is_plain(op: AssignOp) -> bool
+    ensures { result ≡ stmts.is_plain op }
+{
+    matches!(op, AssignOp::Plain)
+}
+
+fn operator(op: AssignOp) -> BinOp
+    ensures { result ≡ stmts.operator op }
+{
+    match op {
+        AssignOp::Plain | AssignOp::Add => BinOp::Add,
+        AssignOp::Sub => BinOp::Sub,
+        AssignOp::Mul => BinOp::Mul,
+        AssignOp::Div => BinOp::Quo,
+        AssignOp::Rem => BinOp::Rem,
+        AssignOp::BitAnd => BinOp::And,
+        AssignOp::BitOr => BinOp::Or,
+        AssignOp::BitXor => BinOp::Xor,
+        AssignOp::ShiftLeft => BinOp::Shl,
+        AssignOp::ShiftRight => BinOp::Shr,
+    }
+}
+
+/// How a compound assignment changes a scalar of this type.
+fn update(structs: &[Struct], op: AssignOp, scalar: &ExprType) -> Result<Plan, Stop>
+    ensures { MatchResult result (λ p. p ≡ stmts.update (struct_sizes structs.now) op scalar.now) (λ e. e ≡ Stop.Memory) }
+{
+    match op {
+        AssignOp::Add => sum(structs, scalar, &ExprType::Int),
+        AssignOp::Sub => difference(structs, scalar),
+        _ => Ok(Plan::Compute(operator(op))),
+    }
+}
+
+fn copy_place(alloc: Global, place: &Place) -> Result<Place, AllocError>
+    ensures { IfOk result (λ p. p ≡ place.now) }
+{
+    match place {
+        Place::Global { var, path } => Ok(Place::Global {
+            var: *var,
+            path: Items::from_slice(alloc, path.as_slice())?,
+        }),
+        Place::Local { var, path } => Ok(Place::Local {
+            var: *var,
+            path: Items::from_slice(alloc, path.as_slice())?,
+        }),
+    }
+}
+
+impl Writer {
+    pub(crate) fn set(&mut self, line: u32, place: Place, a: u32) -> Result<u32, Stop>
+        ensures { (ends : Ends) → Emits (spec.set line place a) ends self.old self.new result }
+    {
+        let instr = Instr::Set {
+            place,
+            a,
+            def: self.next.def,
+        };
+        let draft = Draft {
+            line,
+            instr,
+            object: None,
+        };
+        self.put(draft, A_DEF)
+    }
+
+    fn store(&mut self, line: u32, a: u32, b: u32) -> Result<u32, Stop>
+        ensures { (ends : Ends) → Emits (spec.store line a b) ends self.old self.new result }
+    {
+        let instr = Instr::Store {
+            a,
+            b,
+            def: self.next.def,
+        };
+        let draft = Draft {
+            line,
+            instr,
+            object: None,
+        };
+        self.put(draft, A_DEF)
+    }
+
+    /// Writes `b` to a place.
+    fn write(&mut self, line: u32, spot: Spot, b: u32) -> Result<u32, Stop>
+        ensures { (ends : Ends) → Emits (write_at line spot b) ends self.old self.new result }
+    {
+        match spot {
+            Spot::Direct(place) => self.set(line, place, b),
+            Spot::Left(a) => self.store(line, a, b),
+        }
+    }
+
+    /// The value at a place that is to be written too.
+    fn old_value(&mut self, alloc: Global, line: u32, spot: &Spot) -> Result<u32, Stop>
+        ensures { (ends : Ends) → Emits (at_spot (λ p. spec.get line p) (λ a. spec.load line a) spot.now) ends self.old self.new result }
+    {
+        match spot {
+            Spot::Direct(place) => {
+                let place = copy_place(alloc, place)?;
+                self.get(line, place)
+            }
+            Spot::Left(a) => self.load(line, *a),
+        }
+    }
+
+    /// A return of `a`. That of `main` has no link to read.
+    pub(crate) fn give_back(&mut self, in_main: bool, line: u32, a: u32) -> Result<u32, Stop>
+        ensures { (ends : Ends) → Emits (stmts.returned in_main line a) ends self.old self.new result }
+    {
+        if in_main {
+            self.quiet(line, Instr::Ret { a, read: None })
+        } else {
+            let read = Some(self.next.read);
+            let draft = Draft {
+                line,
+                instr: Instr::Ret { a, read },
+                object: None,
+            };
+            self.put(draft, A_READ)
+        }
+    }
+
+    pub(crate) fn jump(&mut self, line: u32, target: u32) -> Result<u32, Stop>
+        ensures { (ends : Ends) → Emits (spec.jump line target) ends self.old self.new result }
+    {
+        self.quiet(line, Instr::Jump { target })
+    }
+
+    pub(crate) fn turn(&mut self, line: u32) -> Result<u32, Stop>
+        ensures { (ends : Ends) → Emits (stmts.turn line) ends self.old self.new result }
+    {
+        self.quiet(line, Instr::Turn)
+    }
+
+    /// `=`, or the value of a declared variable.
+    fn assign(
+        &mut self,
+        alloc: Global,
+        structs: &[Struct],
+        line: u32,
+        target: &Expr,
+        source: &Expr,
+    ) -> Result<u32, Stop>
+        ensures { (ends : Ends) → Emits (stmts.assigned line ((expr (struct_sizes structs.now) target.now).yield line) (value line (expr (struct_sizes structs.now) source.now))) ends self.old self.new result }
+    {
+        let spot = self.expr(alloc, structs, line, target)?;
+        let value = self.argument(alloc, structs, line, source)?;
+        self.write(line, spot, value)
+    }
+
+    /// Writes a place anew, from its old value and another.
+    fn change(
+        &mut self,
+        alloc: Global,
+        structs: &[Struct],
+        line: u32,
+        op: AssignOp,
+        typing: &ExprType,
+        spot: Spot,
+        old: u32,
+        b: u32,
+    ) -> Result<u32, Stop>
+        ensures { (ends : Ends) → Emits (changed line (stmts.update (struct_sizes structs.now) op (stmts.scalar_at typing.now)) spot old b) ends self.old self.new result }
+    {
+        let scalar = scalar_at(alloc, typing);
+        let plan = update(structs, op, &scalar)?;
+        let c = self.carry(line, plan, old, b)?;
+        self.write(line, spot, c)
+    }
+
+    /// A compound assignment.
+    fn compound(
+        &mut self,
+        alloc: Global,
+        structs: &[Struct],
+        line: u32,
+        op: AssignOp,
+        target: &Expr,
+        source: &Expr,
+    ) -> Result<u32, Stop>
+        ensures { (ends : Ends) → Emits (stmts.compound line (struct_sizes structs.now) op (expr (struct_sizes structs.now) target.now) (value line (expr (struct_sizes structs.now) source.now))) ends self.old self.new result }
+    {
+        let place = self.expr(alloc, structs, line, target)?;
+        let old = self.old_value(alloc, line, &place)?;
+        let b = self.argument(alloc, structs, line, source)?;
+        self.change(alloc, structs, line, op, &target.typing, place, old, b)
+    }
+
+    /// `++` and `--`, as a sum and a difference.
+    pub(crate) fn step(
+        &mut self,
+        alloc: Global,
+        structs: &[Struct],
+        line: u32,
+        op: AssignOp,
+        target: &Expr,
+    ) -> Result<u32, Stop>
+        ensures { (ends : Ends) → Emits (stmts.compound line (struct_sizes structs.now) op (expr (struct_sizes structs.now) target.now) (spec.constant line (pos 1))) ends self.old self.new result }
+    {
+        let spot = self.expr(alloc, structs, line, target)?;
+        let old = self.old_value(alloc, line, &spot)?;
+        let b = self.constant(line, 1)?;
+        self.change(alloc, structs, line, op, &target.typing, spot, old, b)
+    }
+
+    /// An assignment.
+    pub(crate) fn assignment(
+        &mut self,
+        alloc: Global,
+        structs: &[Struct],
+        line: u32,
+        op: AssignOp,
+        target: &Expr,
+        source: &Expr,
+    ) -> Result<u32, Stop>
+        ensures { (ends : Ends) → Emits (stmts.assignment line (struct_sizes structs.now) op (expr (struct_sizes structs.now) target.now) (value line (expr (struct_sizes structs.now) source.now))) ends self.old self.new result }
+    {
+        if is_plain(op) {
+            self.assign(alloc, structs, line, target, source)
+        } else {
+            self.compound(alloc, structs, line, op, target, source)
+        }
+    }
+
+    /// A `return`, with 0 where there is no value.
+    pub(crate) fn give(
+        &mut self,
+        alloc: Global,
+        structs: &[Struct],
+        in_main: bool,
+        line: u32,
+        given: &Option<Expr>,
+    ) -> Result<u32, Stop>
+        ensures { (ends : Ends) → Emits (stmts.return (stmts.around_by structs.now in_main) line given.now) ends self.old self.new result }
+    {
+        match given {
+            None => {
+                let a = self.constant(line, 0)?;
+                self.give_back(in_main, line, a)
+            }
+            Some(e) => {
+                let a = self.argument(alloc, structs, line, e)?;
+                self.give_back(in_main, line, a)
+            }
+        }
+    }
+
+    fn truth_value(
+        &mut self,
+        alloc: Global,
+        structs: &[Struct],
+        line: u32,
+        e: &Expr,
+    ) -> Result<u32, Stop>
+        ensures { (ends : Ends) → Emits (truth line (expr (struct_sizes structs.now) e.now)) ends self.old self.new result }
+    {
+        let a = self.argument(alloc, structs, line, e)?;
+        self.truth_of(line, &e.typing, a)
+    }
+
+    /// A condition, and a test that goes past so many instructions where it is 0.
+    pub(crate) fn condition(
+        &mut self,
+        alloc: Global,
+        structs: &[Struct],
+        condition: &Condition,
+        past: u32,
+    ) -> Result<u32, Stop>
+        requires { past ≤ 65535 }
+        ensures { (ends : Ends) → Emits (stmts.tested condition.now.line.0 (expr (struct_sizes structs.now) condition.now.value) past) ends self.old self.new result }
+    {
+        let line = condition.line.0;
+        let a = self.truth_value(alloc, structs, line, &condition.value)?;
+        self.test(line, a, past)
+    }
+}
