@@ -19,7 +19,8 @@ use std::alloc::Global;
 /// The greatest number of tokens.
 const MOST_TOKENS: usize = 200_000;
 
-fn newlines(text: &[u8]) -> usize
+/// How many newlines a text has: a line's number is one more than those before it.
+pub fn newlines(text: &[u8]) -> usize
     ensures value { result ≡ newlines text.now }
     ensures small { result ≤ length text.now }
 {

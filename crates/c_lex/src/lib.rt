@@ -17,7 +17,7 @@ mod word;
 pub use fault::LexFault;
 pub use law::{comment_is_space, one_meaning};
 pub use lexed::Lexed;
-pub use lexer::lex;
+pub use lexer::{lex, newlines};
 pub use token::{Kind, Mark, Token, Word};
 
 #[cfg(test)]

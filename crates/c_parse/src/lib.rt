@@ -19,6 +19,3 @@ mod types;
 pub use fault::ParseFault;
 pub use law::{one_answer, one_tree, prefix_continues};
 pub use parser::parse;
-
-#[cfg(test)]
-mod tests;

@@ -4,7 +4,7 @@ use Rattle.std.proofs.lemmas.List.{append_assoc}
 use Rattle.c_ast.specs.declared.ident.Ident.{Ident}
 use Rattle.c_typed.specs.declared.types.ObjectType.{ObjectType}
 use Rattle.c_typed.specs.Marks
-use Rattle.c_typed.specs.Marks.{Mark, tag, field, global, prototype, function, local, opens, closes, Opening, History, Variable, around, result_at, functions_in, globals_in, has_tag, has_global, has_function, has_prototype, global_words}
+use Rattle.c_typed.specs.Marks.{Mark, local, opens, closes, Opening, History, Variable, around, result_at, functions_in, globals_in, has_tag, has_global, has_function, has_prototype, global_words}
 use Rattle.c_typed.specs.Parts.{marked}
 use Rattle.c_typed.specs.Scopes.{Binding, Scopes, bound, left, scopes_of}
 

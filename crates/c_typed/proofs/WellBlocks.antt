@@ -1,43 +1,35 @@
 -- Every statement is well-formed.
-use Rattle.std.proofs.Common.{◌≡◌, ℕ, zero, suc, ◌+◌, ◌<◌, ◌≤◌, Bool, true, false, ◌&&◌, not, List, [], ◌∷◌, ◌++◌, map, length, Option, Some, None, refl, ap, sym, ◌∙◌, subst, arith}
+use Rattle.std.proofs.Common.{◌≡◌, ℕ, suc, ◌+◌, ◌<◌, ◌≤◌, Bool, true, false, ◌&&◌, List, [], ◌∷◌, ◌++◌, map, length, Option, Some, None, refl, ap, sym, ◌∙◌, subst, arith}
 use Rattle.std.specs.Prelude.{nat_le}
 use Rattle.std.proofs.lemmas.Bool.Decides.{nat_tests}
 use Rattle.dfi_base.specs.declared.numbers.Line.{Line}
 use Rattle.c_ast.specs.declared.decl.Base.{Base}
 use Rattle.c_ast.specs.declared.decl.Decl.{Decl}
 use Rattle.c_ast.specs.declared.decl.DeclItem.{DeclItem}
-use Rattle.c_ast.specs.declared.expr.Expr.{Expr as SourceExpr}
-use Rattle.c_ast.specs.declared.stmt.Simple.{Simple}
-use Rattle.c_ast.specs.declared.stmt.ForStart.{ForStart}
 use Rattle.c_ast.specs.declared.stmt.Block.{Block}
-use Rattle.c_ast.specs.declared.stmt.BlockItem.{BlockItem}
-use Rattle.c_ast.specs.declared.stmt.Stmt.{ind-Stmt, map-Stmt, roll-Stmt as source, Stmt as SourceStmt}
-use Rattle.c_ast.specs.declared.stmt.Stmt.TheOpen.{Stmt-F as Source}
 use Rattle.c_typed.specs.declared.types.ObjectType.{ObjectType}
 use Rattle.c_typed.specs.declared.expr.Expr.{Expr}
 use Rattle.c_typed.specs.declared.stmt.Branch.{Branch}
-use Rattle.c_typed.specs.declared.stmt.Condition.{Condition}
 use Rattle.c_typed.specs.declared.stmt.Stmt.{Stmt, roll-Stmt}
 use Rattle.c_typed.specs.declared.stmt.Stmt.TheOpen.{Stmt-F}
 use Rattle.c_typed.specs.Types.{declared_type, fits}
-use Rattle.c_typed.specs.Marks.{Mark, History, opens, closes, block, loop, branch, around, in_loop, in_branch, result_at}
+use Rattle.c_typed.specs.Marks.{Mark, History, opens, closes, block, branch, in_branch, result_at}
 use Rattle.c_typed.specs.Whole.{Whole}
-use Rattle.c_typed.specs.Faults.{mismatch, escape, unless, branches}
-use Rattle.c_typed.specs.Parts.{Part, marked, tokens, given, mark, joined, obeys, with_faults, separated, in_turn, if_there, ◌⊗◌, ◌<⊗◌, ◌⊗>◌, ◌<$>◌}
+use Rattle.c_typed.specs.Faults.{unless, branches}
+use Rattle.c_typed.specs.Parts.{Part, marked, tokens, given, mark, with_faults, separated, in_turn, ◌⊗◌, ◌<⊗◌, ◌⊗>◌, ◌<$>◌}
 use Rattle.c_typed.specs.Tags.{base}
-use Rattle.c_typed.specs.Exprs.{expr, value}
+use Rattle.c_typed.specs.Exprs.{value}
 use Rattle.c_typed.specs.Decls as decls
 use Rattle.c_typed.specs.Decls.{local_item, local_decl, joined_lists}
-use Rattle.c_typed.specs.Stmts.{Layer, condition, simple, returns, value_there, condition_there, within_loop, empty, block_item, body, branch_of, start, step, second, stmt_step, stmt}
-use Rattle.c_typed.specs.Programs.{with_part, function_body}
-use Rattle.c_typed.specs.IsWell.{Context, Round, in_branch_of, in_loop_of, IsExpr, IsCondition, IsConditionThere, IsReturned, Placed, placed, stmt_there, in_branches, IsStmtLayer, IsStmt, AreStmts}
-use Rattle.c_typed.proofs.Levels.{items_of, blocks_of, first_items, mapped, stmt_roll}
-use Rattle.c_typed.proofs.Quiet.{quiet, no_marks}
+use Rattle.c_typed.specs.Stmts.{returns, block_item, body, branch_of}
+use Rattle.c_typed.specs.IsWell.{Context, Round, in_branch_of, IsExpr, IsReturned, Placed, placed, in_branches, IsStmt, AreStmts}
+use Rattle.c_typed.proofs.Levels.{items_of, first_items, stmt_roll}
+use Rattle.c_typed.proofs.Quiet.{no_marks}
 use Rattle.c_typed.proofs.Balanced.{Balanced}
-use Rattle.c_typed.proofs.WellParts.{none_some, some_is, Stands, Pure, pure_given, pure_tokens, pure_map, pure_joined}
+use Rattle.c_typed.proofs.WellParts.{none_some, some_is, pure_given, pure_tokens, pure_map, pure_joined}
 use Rattle.c_typed.proofs.WellTypes.{IsLinked}
 use Rattle.c_typed.proofs.WellExprs.{sound_base}
-use Rattle.c_typed.proofs.WellStmts.{Sound, round, round_behind, unless_none, not_true, sound_of, sound_tokens, sound_mark, sound_joined, sound_map, sound_obeys, sound_with, stmt_made, are_append, empty_known, value_pure, condition_pure, Anywhere, simple_pure, AreHere, AreAnywhere, sound_valued}
+use Rattle.c_typed.proofs.WellStmts.{Sound, round, round_behind, unless_none, sound_of, sound_tokens, sound_mark, sound_joined, sound_map, sound_with, stmt_made, are_append, value_pure, Anywhere, AreHere, AreAnywhere, sound_valued}
 
 both_true_first : (a b : Bool) → a && b ≡ true → a ≡ true
 both_true_first true b e = refl

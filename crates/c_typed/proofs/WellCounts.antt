@@ -1,5 +1,5 @@
 -- The words of all globals, and the number of functions, of a text that breaks no rule.
-use Rattle.std.proofs.Common.{◌≡◌, ℕ, zero, suc, ◌+◌, ◌<◌, ◌≤◌, Bool, true, false, ◌&&◌, ◌||◌, not, List, [], ◌∷◌, ◌++◌, map, length, Option, Some, None, refl, ap, sym, ◌∙◌, subst, arith}
+use Rattle.std.proofs.Common.{◌≡◌, ℕ, ◌+◌, ◌<◌, ◌≤◌, ◌&&◌, ◌||◌, not, List, [], ◌∷◌, ◌++◌, map, length, refl, ap, ◌∙◌, subst, arith}
 use Rattle.std.specs.Prelude.{nat_le, nat_lt}
 use Rattle.std.proofs.lemmas.List.{append-nil}
 use Rattle.std.proofs.lemmas.Bool.Decides.{nat_tests}
@@ -15,10 +15,10 @@ use Rattle.c_typed.specs.declared.program.Struct.{Struct}
 use Rattle.c_typed.specs.Types.{result_type, declared_type}
 use Rattle.c_typed.specs.Marks as marks
 use Rattle.c_typed.specs.Marks.{Mark, tag, field, function, prototype, opens, closes, History, functions_in, global_words}
-use Rattle.c_typed.specs.Whole.{Whole, Signature, signatures, is_main}
+use Rattle.c_typed.specs.Whole.{Whole, signatures, is_main}
 use Rattle.c_typed.specs.Faults as faults
 use Rattle.c_typed.specs.Faults.{unless}
-use Rattle.c_typed.specs.Parts.{Place, Part, marked, behind, tokens, mark, in_turn, with_faults, ◌<⊗◌, ◌⊗>◌}
+use Rattle.c_typed.specs.Parts.{Place, marked, behind, tokens, mark, in_turn, with_faults, ◌<⊗◌, ◌⊗>◌}
 use Rattle.c_typed.specs.Decls.{fields}
 use Rattle.c_typed.specs.Programs as programs
 use Rattle.c_typed.specs.Programs.{struct, function_text, proto, proto_parameters, item, global_limit, function_limit, result_base}
@@ -27,7 +27,7 @@ use Rattle.c_typed.proofs.Balanced.{Balanced, IsOutside, marked_append, unchange
 use Rattle.c_typed.proofs.BalancedStmts.{join, balanced_parameters, balanced_function_body}
 use Rattle.c_typed.proofs.WellParts.{none_first, none_second}
 use Rattle.c_typed.proofs.WellStmts.{unless_none}
-use Rattle.c_typed.proofs.WellMarks.{IsShaped, Tagged}
+use Rattle.c_typed.proofs.WellMarks.{IsShaped}
 use Rattle.c_typed.proofs.WellFunction.{quiet_result}
 use Rattle.c_typed.proofs.WellOuter.{FieldsOnly, all_fields, decl_globals, function_marks, balanced_proto_parameters}
 use Rattle.c_typed.proofs.WellItems.{all_objects, item_objects}

@@ -13,9 +13,9 @@ use Rattle.c_ast.specs.declared.program.Item.{Item}
 use Rattle.c_typed.specs.declared.types.BaseType.{BaseType}
 use Rattle.c_typed.specs.declared.types.ObjectType.{ObjectType}
 use Rattle.c_typed.specs.declared.program.Struct.{Struct}
-use Rattle.c_typed.specs.Types.{place_of, base_type, declared_type, result_type}
+use Rattle.c_typed.specs.Types.{place_of, base_type, declared_type}
 use Rattle.c_typed.specs.Marks as marks
-use Rattle.c_typed.specs.Marks.{Mark, tag, History, has_tag}
+use Rattle.c_typed.specs.Marks.{tag, History, has_tag}
 use Rattle.c_typed.specs.Whole.{Whole, Member, members, struct_defs}
 use Rattle.c_typed.specs.Faults.{unknown, twice, unless}
 use Rattle.c_typed.specs.Parts.{Place, marked, behind, tokens, mark, kept_by, separated, in_turn, ◌⊗>◌}

@@ -1,33 +1,31 @@
 -- The value of an expression is well-formed, by its form.
-use Rattle.std.proofs.Common.{◌≡◌, ◌≢◌, ℕ, zero, suc, ◌+◌, ◌<◌, ◌≤◌, Bool, true, false, ◌&&◌, List, [], ◌∷◌, ◌++◌, map, length, get_or, Option, Some, None, refl, ap, sym, ◌∙◌, subst, arith}
-use Rattle.std.specs.Prelude.{slice_get, nat_eq, nat_lt}
+use Rattle.std.proofs.Common.{◌≡◌, ℕ, ◌<◌, Bool, true, false, ◌&&◌, List, [], ◌∷◌, length, Option, Some, None, refl, subst, arith}
+use Rattle.std.specs.Prelude.{nat_eq}
 use Rattle.std.proofs.lemmas.Bool.Decides.{nat_tests}
-use Rattle.std.proofs.lemmas.Option.{slice_get-map, slice_get_within}
 use Rattle.dfi_base.specs.declared.numbers.Line.{Line}
 use Rattle.c_ast.specs.declared.ident.Ident.{Ident}
 use Rattle.c_ast.specs.declared.decl.Base.{Base}
 use Rattle.c_ast.specs.declared.decl.TypeName.{TypeName}
 use Rattle.c_ast.specs.declared.expr.UnaryOp.{UnaryOp}
 use Rattle.c_ast.specs.declared.expr.BinaryOp.{BinaryOp}
-use Rattle.c_typed.specs.declared.types.BaseType.{BaseType}
 use Rattle.c_typed.specs.declared.types.ObjectType.{ObjectType}
 use Rattle.c_typed.specs.declared.types.ExprType.{ExprType}
 use Rattle.c_typed.specs.declared.expr.PrefixOp.{PrefixOp}
 use Rattle.c_typed.specs.declared.expr.Expr.{Expr}
 use Rattle.c_typed.specs.declared.expr.Form.TheOpen.{Form-F}
 use Rattle.c_typed.specs.declared.program.Struct.{Struct}
-use Rattle.c_typed.specs.Types.{place_of, base_type, named_type, is_truth, scalar_type, fits}
-use Rattle.c_typed.specs.Marks.{History, Variable, variable, has_tag}
-use Rattle.c_typed.specs.Whole.{Whole, Member, Signature}
+use Rattle.c_typed.specs.Types.{place_of, base_type, named_type, is_truth}
+use Rattle.c_typed.specs.Marks.{History, has_tag}
+use Rattle.c_typed.specs.Whole.{Whole}
 use Rattle.c_typed.specs.Faults.{unknown, mismatch, not_lvalue}
-use Rattle.c_typed.specs.Parts.{Place, Part, tokens, joined, behind, obeys, ◌⊗◌, ◌<⊗◌, ◌⊗>◌, ◌<$>◌}
+use Rattle.c_typed.specs.Parts.{Place, Part, tokens, obeys, ◌⊗◌, ◌<⊗◌, ◌⊗>◌}
 use Rattle.c_typed.specs.Tags.{base, type_name, is_tag, known_tag}
 use Rattle.c_typed.specs.Exprs
-use Rattle.c_typed.specs.Exprs.{Layer, made, Size, Reading, value, place, operands, value_by_type, place_by_type, of_ints, of_truths, of_sum, of_difference, of_equality, binary_type, binary, int_prefix, plus, negation, pointed_at, address_by, address, unary, item_at, struct_by, struct_of, struct_at, struct_behind, with_struct}
-use Rattle.c_typed.specs.IsWell.{IsBase, IsObject, IsTyping, Context, IsField, IsLayer, IsExpr, AreExprs, IsPrefix, none, each}
-use Rattle.c_typed.proofs.Quiet.{quiet_base, quiet_type_name, no_marks}
-use Rattle.c_typed.proofs.WellParts.{none_some, some_is, Stands, Pure, pure_tokens, pure_given, pure_joined, pure_map, pure_obeys, pure_refused, pure_weaker, changed_is, both_are, ruled_is}
-use Rattle.c_typed.proofs.WellTypes.{IsLinked, item_object, scalar_typing, typing_of, made_known, one, two, place_object, pointer_object, value_known, field_there}
+use Rattle.c_typed.specs.Exprs.{made, Size, Reading, value, place, operands, value_by_type, place_by_type, of_ints, of_sum, of_difference, binary_type, binary, int_prefix, plus, pointed_at, address_by, address, unary, item_at, struct_by, struct_of, struct_at, struct_behind, with_struct}
+use Rattle.c_typed.specs.IsWell.{IsBase, IsObject, IsTyping, Context, IsExpr, IsPrefix}
+use Rattle.c_typed.proofs.Quiet.{quiet_base, quiet_type_name}
+use Rattle.c_typed.proofs.WellParts.{none_some, some_is, Stands, Pure, pure_tokens, pure_joined, pure_map, pure_obeys}
+use Rattle.c_typed.proofs.WellTypes.{IsLinked, item_object, typing_of, made_known, one, two, place_object, pointer_object, value_known}
 
 -- What is wanted of a part that may be there.
 abbrev pub IfPure : (w : Whole) (c : Context) {A : Type 0} → Option (Part A) → (A → Type 0) → Type 0

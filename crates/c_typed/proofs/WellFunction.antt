@@ -1,10 +1,8 @@
 -- A function that breaks no rule is well-formed, where the tables of its program are.
-use Rattle.std.proofs.Common.{◌≡◌, ◌≢◌, ℕ, zero, suc, ◌+◌, ◌*◌, ◌<◌, ◌≤◌, Bool, true, false, ◌&&◌, ◌||◌, not, List, [], ◌∷◌, ◌++◌, map, take, length, get_or, Option, Some, None, refl, ap, sym, ◌∙◌, subst, arith}
+use Rattle.std.proofs.Common.{◌≡◌, ℕ, suc, ◌+◌, ◌<◌, ◌≤◌, Bool, true, false, ◌&&◌, ◌||◌, not, List, [], ◌∷◌, ◌++◌, map, take, length, get_or, Option, Some, refl, ap, sym, ◌∙◌, subst, arith}
 use Rattle.std.specs.Prelude.{slice_get, nat_eq, nat_le, nat_lt, All}
-use Rattle.std.proofs.lemmas.List.{append-nil, append_assoc}
-use Rattle.dfi_base.specs.declared.numbers.Line.{Line}
+use Rattle.std.proofs.lemmas.List.{append-nil}
 use Rattle.c_ast.specs.LineOf.{line_of_base}
-use Rattle.c_ast.specs.declared.decl.Base.{Base}
 use Rattle.c_ast.specs.declared.decl.Param.{Param}
 use Rattle.c_ast.specs.declared.decl.Params.{Params}
 use Rattle.c_ast.specs.declared.decl.ResultType.{ResultType}
@@ -14,12 +12,12 @@ use Rattle.c_typed.specs.declared.types.ObjectType.{ObjectType}
 use Rattle.c_typed.specs.declared.stmt.Stmt.{Stmt}
 use Rattle.c_typed.specs.declared.program.Struct.{Struct}
 use Rattle.c_typed.specs.declared.program.Function.{Function}
-use Rattle.c_typed.specs.Types.{result_type, pointers_to, parameter_stars, base_type}
+use Rattle.c_typed.specs.Types.{result_type, parameter_stars, base_type}
 use Rattle.c_typed.specs.Marks as marks
-use Rattle.c_typed.specs.Marks.{Mark, local, closes, function, History, frame_words}
-use Rattle.c_typed.specs.Whole.{Whole, Member, Signature, parameter_type, parameter_types, is_main}
+use Rattle.c_typed.specs.Marks.{Mark, closes, function, History, frame_words}
+use Rattle.c_typed.specs.Whole.{Whole, Signature, parameter_type, parameter_types, is_main}
 use Rattle.c_typed.specs.Faults as faults
-use Rattle.c_typed.specs.Faults.{Fault, unless}
+use Rattle.c_typed.specs.Faults.{unless}
 use Rattle.c_typed.specs.Parts.{Place, Part, marked, tokens, mark, behind, with_faults, ◌<⊗◌, ◌⊗>◌}
 use Rattle.c_typed.specs.Scopes.{scopes_of}
 use Rattle.c_typed.specs.Tags.{base}

@@ -1,40 +1,27 @@
 -- A function that breaks no rule is well-formed.
-use Rattle.std.proofs.Common.{◌≡◌, ◌≢◌, ℕ, zero, suc, ◌+◌, ◌*◌, ◌<◌, ◌≤◌, Bool, true, false, ◌&&◌, ◌||◌, not, List, [], ◌∷◌, ◌++◌, map, take, length, get_or, Option, Some, None, refl, ap, sym, ◌∙◌, subst, arith}
+use Rattle.std.proofs.Common.{◌≡◌, ℕ, zero, suc, ◌+◌, ◌≤◌, List, [], ◌∷◌, ◌++◌, map, length, get_or, Some, refl, ap, sym, ◌∙◌, subst, arith}
 use Rattle.std.specs.Prelude.{slice_get, slice_index_or, nat_eq, nat_le, All}
 use Rattle.std.proofs.lemmas.Option.{slice_get-get_or}
-use Rattle.std.proofs.lemmas.List.{append-nil, append_assoc}
-use Rattle.c_ast.specs.declared.ident.Ident.{Ident}
-use Rattle.c_ast.specs.declared.decl.Base.{Base}
+use Rattle.std.proofs.lemmas.List.{append_assoc}
 use Rattle.c_ast.specs.declared.decl.Param.{Param}
 use Rattle.c_ast.specs.declared.decl.Params.{Params}
-use Rattle.c_ast.specs.declared.decl.ResultType.{ResultType}
-use Rattle.c_ast.specs.declared.program.Function.{Function as SourceFunction}
 use Rattle.c_typed.specs.declared.types.ObjectType.{ObjectType}
-use Rattle.c_typed.specs.declared.stmt.Stmt.{Stmt}
 use Rattle.c_typed.specs.declared.program.Struct.{Struct}
-use Rattle.c_typed.specs.declared.program.Global.{Global}
-use Rattle.c_typed.specs.declared.program.Variable.{Variable}
-use Rattle.c_typed.specs.declared.program.Function.{Function}
-use Rattle.c_typed.specs.Types.{result_type, words_of}
+use Rattle.c_typed.specs.Types.{words_of}
 use Rattle.c_typed.specs.Marks as marks
-use Rattle.c_typed.specs.Marks.{Mark, local, opens, closes, function, History, locals_in, frame_words}
-use Rattle.c_typed.specs.Whole.{Whole, Member, Signature, parameter_type, parameter_types}
-use Rattle.c_typed.specs.Parts.{Place, Part, marked, tokens, mark, joined, behind, with_faults, ◌<⊗◌, ◌⊗>◌}
-use Rattle.c_typed.specs.Scopes.{Binding, Scopes, scopes_of}
+use Rattle.c_typed.specs.Marks.{Mark, local, opens, closes, History, locals_in, frame_words}
+use Rattle.c_typed.specs.Whole.{Whole, parameter_type, parameter_types}
+use Rattle.c_typed.specs.Parts.{marked}
 use Rattle.c_typed.specs.Decls as decls
-use Rattle.c_typed.specs.Decls.{is_scalar, type_limit, frame_limit, parameter}
+use Rattle.c_typed.specs.Decls.{type_limit, frame_limit, parameter}
 use Rattle.c_typed.specs.Programs as programs
-use Rattle.c_typed.specs.Programs.{variables_in, main_number, result_base, parameters, function_body, function_text}
-use Rattle.c_typed.specs.Typed.{Typed}
-use Rattle.c_typed.specs.IsWell.{IsBase, IsObject, sizes_in, Context, Callee, words_in, objects_of, callee_of, context_of, IsResult, IsFunction, placed, AreStmts}
+use Rattle.c_typed.specs.Programs.{variables_in, parameters}
+use Rattle.c_typed.specs.IsWell.{IsObject, sizes_in, Context, words_in, objects_of}
 use Rattle.c_typed.proofs.Quiet.{quiet_base, no_marks}
 use Rattle.c_typed.proofs.Balanced.{Balanced, marked_append}
-use Rattle.c_typed.proofs.BalancedStmts.{balanced_parameters, balanced_function_body, join}
-use Rattle.c_typed.proofs.WellParts.{Stands, Kept, AllScopes, AllBound, IsBound, kept_first, kept_second, stands_behind, none_first, none_second, both_are, some_is, none_some}
-use Rattle.c_typed.proofs.WellTypes.{IsLinked}
-use Rattle.c_typed.proofs.WellStmts.{round, round_behind, unless_none}
-use Rattle.c_typed.proofs.WellLevels.{body_sound}
-use Rattle.c_typed.proofs.WellMarks.{IsShaped, Tagged, Declared, declared_append, Declares, tagged_behind, declares_parameters, function_body_declares, base_known, scalar_words, false_true}
+use Rattle.c_typed.proofs.BalancedStmts.{balanced_parameters}
+use Rattle.c_typed.proofs.WellParts.{Kept, some_is, none_some}
+use Rattle.c_typed.proofs.WellMarks.{IsShaped, Declared, base_known}
 
 -- Marks inside a function.
 abbrev pub Inner : List Mark → Type 0

@@ -1,6 +1,6 @@
 -- The items of a program in turn: what stands before each, and that each function is well-formed.
-use Rattle.std.proofs.Common.{◌≡◌, ℕ, zero, suc, ◌+◌, ◌<◌, ◌≤◌, Bool, true, false, List, [], ◌∷◌, ◌++◌, map, length, Option, Some, None, refl, ap, sym, ◌∙◌, subst, arith}
-use Rattle.std.specs.Prelude.{slice_get, nat_eq, nat_lt, is_some}
+use Rattle.std.proofs.Common.{◌≡◌, ℕ, suc, ◌+◌, ◌<◌, true, false, List, [], ◌∷◌, ◌++◌, map, length, Some, refl, ap, sym, ◌∙◌, subst}
+use Rattle.std.specs.Prelude.{slice_get, is_some}
 use Rattle.std.proofs.lemmas.List.{append-nil, append_assoc}
 use Rattle.c_ast.specs.declared.decl.Base.{Base}
 use Rattle.c_ast.specs.declared.decl.Decl.{Decl}
@@ -10,24 +10,23 @@ use Rattle.c_ast.specs.declared.program.Function.{Function as SourceFunction}
 use Rattle.c_ast.specs.declared.program.Proto.{Proto}
 use Rattle.c_ast.specs.declared.program.Item.{Item}
 use Rattle.c_typed.specs.declared.types.ObjectType.{ObjectType}
-use Rattle.c_typed.specs.declared.stmt.Stmt.{Stmt}
 use Rattle.c_typed.specs.declared.program.Function.{Function}
 use Rattle.c_typed.specs.Types.{place_of, declared_type, result_type}
 use Rattle.c_typed.specs.Marks as marks
 use Rattle.c_typed.specs.Marks.{Mark, global, function, opens, closes, prototype, tag, History, globals_in}
-use Rattle.c_typed.specs.Whole.{Whole, Signature, signature, signatures, parameter_types}
-use Rattle.c_typed.specs.Parts.{Place, Part, marked, behind, in_turn}
+use Rattle.c_typed.specs.Whole.{Whole}
+use Rattle.c_typed.specs.Parts.{Place, marked, behind, in_turn}
 use Rattle.c_typed.specs.Decls.{fields, joined_lists}
 use Rattle.c_typed.specs.Programs as programs
-use Rattle.c_typed.specs.Programs.{struct, global_decl, function_text, proto, proto_parameters, item, text}
+use Rattle.c_typed.specs.Programs.{struct, global_decl, function_text, proto, proto_parameters, item}
 use Rattle.c_typed.specs.Typed.{Typed}
-use Rattle.c_typed.specs.IsWell.{Callee, callee_of, objects_of, IsFunction}
+use Rattle.c_typed.specs.IsWell.{objects_of, IsFunction}
 use Rattle.c_typed.proofs.Balanced.{Balanced, marked_append, unchanged, globals_outside}
 use Rattle.c_typed.proofs.BalancedStmts.{join, balanced_parameters, balanced_function_body}
 use Rattle.c_typed.proofs.WellParts.{none_first, none_second, both_are, changed_is, some_is, none_some}
-use Rattle.c_typed.proofs.WellFunctions.{AllOf, all_append, locals_of}
+use Rattle.c_typed.proofs.WellFunctions.{AllOf, all_append}
 use Rattle.c_typed.proofs.WellFunction.{IsTabled, IsOuter, quiet_result, typed_function, objects_are, function_well}
-use Rattle.c_typed.proofs.WellOuter.{FieldsOnly, all_fields, globals_fields, function_marks, balanced_proto_parameters, decl_globals, outer_struct, outer_function, outer_proto, outer_global}
+use Rattle.c_typed.proofs.WellOuter.{all_fields, globals_fields, function_marks, balanced_proto_parameters, decl_globals, outer_struct, outer_function, outer_proto, outer_global}
 
 -- the types of the globals of an item
 abbrev pub item_objects : Whole → Item → List ObjectType

@@ -1,5 +1,5 @@
 -- Every statement of a function is well-formed, one level at a time.
-use Rattle.std.proofs.Common.{◌≡◌, ℕ, zero, suc, Bool, true, false, not, List, [], ◌∷◌, ◌++◌, map, length, Option, Some, None, refl, ap, sym, ◌∙◌, subst}
+use Rattle.std.proofs.Common.{◌≡◌, suc, true, false, not, List, [], ◌∷◌, map, length, Option, Some, None, refl, ap, sym, subst}
 use Rattle.dfi_base.specs.declared.numbers.Line.{Line}
 use Rattle.c_ast.specs.declared.decl.Decl.{Decl}
 use Rattle.c_ast.specs.declared.expr.Expr.{Expr as SourceExpr}
@@ -9,24 +9,21 @@ use Rattle.c_ast.specs.declared.stmt.Block.{Block}
 use Rattle.c_ast.specs.declared.stmt.BlockItem.{BlockItem}
 use Rattle.c_ast.specs.declared.stmt.Stmt.{ind-Stmt, map-Stmt, roll-Stmt as source, Stmt as SourceStmt}
 use Rattle.c_ast.specs.declared.stmt.Stmt.TheOpen.{Stmt-F as Source}
-use Rattle.c_typed.specs.declared.expr.Expr.{Expr}
-use Rattle.c_typed.specs.declared.stmt.Condition.{Condition}
 use Rattle.c_typed.specs.declared.stmt.Stmt.{Stmt, roll-Stmt}
 use Rattle.c_typed.specs.declared.stmt.Stmt.TheOpen.{Stmt-F}
 use Rattle.c_typed.specs.Marks.{Mark, History, opens, closes, loop, around, in_loop, in_branch, result_at}
 use Rattle.c_typed.specs.Whole.{Whole}
 use Rattle.c_typed.specs.Faults.{mismatch, escape, unless}
-use Rattle.c_typed.specs.Parts.{Place, Part, marked, tokens, given, mark, joined, obeys, with_faults, if_there, ◌⊗◌, ◌<⊗◌, ◌⊗>◌, ◌<$>◌}
-use Rattle.c_typed.specs.Exprs.{expr, value}
+use Rattle.c_typed.specs.Parts.{Part, marked, tokens, given, mark, obeys, if_there, ◌⊗◌, ◌<⊗◌, ◌⊗>◌, ◌<$>◌}
 use Rattle.c_typed.specs.Decls.{local_decl}
-use Rattle.c_typed.specs.Stmts.{Layer, condition, simple, returns, value_there, value_of, condition_there, within_loop, empty, block_item, body, branch_of, start, step, second, stmt_step, stmt}
+use Rattle.c_typed.specs.Stmts.{Layer, condition, simple, returns, value_there, value_of, condition_there, within_loop, empty, block_item, branch_of, start, step, second, stmt_step, stmt}
 use Rattle.c_typed.specs.Programs.{with_part, function_body}
-use Rattle.c_typed.specs.IsWell.{Context, Round, in_loop_of, out_of_loop, IsExpr, IsCondition, IsConditionThere, IsStmtLayer, placed, stmt_there, IsStmt, AreStmts}
+use Rattle.c_typed.specs.IsWell.{Context, Round, in_loop_of, out_of_loop, IsCondition, IsConditionThere, stmt_there, IsStmt, AreStmts}
 use Rattle.c_typed.proofs.Levels.{items_of, blocks_of, first_items, mapped, stmt_roll}
 use Rattle.c_typed.proofs.Quiet.{quiet, no_marks}
 use Rattle.c_typed.proofs.Balanced.{Balanced}
 use Rattle.c_typed.proofs.BalancedStmts.{balanced_quiet, join, balanced_local_decl, balanced_start, balanced_stmt, quiet_condition_there, quiet_step}
-use Rattle.c_typed.proofs.WellParts.{some_is, Stands, Pure, pure_given, pure_tokens, pure_map, pure_joined}
+use Rattle.c_typed.proofs.WellParts.{some_is, Pure, pure_given, pure_tokens, pure_map, pure_joined}
 use Rattle.c_typed.proofs.WellTypes.{IsLinked}
 use Rattle.c_typed.proofs.WellStmts.{Sound, round, unless_none, not_true, sound_of, sound_tokens, sound_mark, sound_joined, sound_map, sound_obeys, sound_with, stmt_made, empty_known, value_pure, condition_pure, Anywhere, simple_pure, AreHere}
 use Rattle.c_typed.proofs.WellBlocks.{IsHere, here_before, sound_here, sound_local_decl, AllWell, AllBranches, sound_body, sound_block, sound_branch, sound_par, returned_known, IfExpr}

@@ -1,6 +1,6 @@
 -- What stands before an item of a program, behind each kind of item.
-use Rattle.std.proofs.Common.{◌≡◌, ℕ, zero, suc, ◌+◌, ◌<◌, ◌≤◌, Bool, true, false, ◌&&◌, ◌||◌, not, List, [], ◌∷◌, ◌++◌, map, length, Option, Some, None, refl, ap, sym, ◌∙◌, subst, arith}
-use Rattle.std.specs.Prelude.{slice_get, nat_eq, nat_le, nat_lt, is_some}
+use Rattle.std.proofs.Common.{◌≡◌, ℕ, ◌+◌, ◌<◌, Bool, true, false, ◌||◌, List, [], ◌∷◌, ◌++◌, map, length, Option, Some, None, refl, ap, sym, ◌∙◌, subst, arith}
+use Rattle.std.specs.Prelude.{slice_get, nat_eq, nat_le, nat_lt}
 use Rattle.std.proofs.lemmas.List.{append-nil, append_assoc}
 use Rattle.std.proofs.lemmas.Bool.Decides.{nat_tests}
 use Rattle.c_ast.specs.declared.ident.Ident.{Ident}
@@ -14,13 +14,12 @@ use Rattle.c_ast.specs.declared.program.Field.{Field}
 use Rattle.c_ast.specs.declared.program.StructDef.{StructDef}
 use Rattle.c_ast.specs.declared.program.Function.{Function as SourceFunction}
 use Rattle.c_ast.specs.declared.program.Proto.{Proto}
-use Rattle.c_ast.specs.declared.program.Item.{Item}
 use Rattle.c_typed.specs.declared.types.ObjectType.{ObjectType}
 use Rattle.c_typed.specs.Types.{place_of, declared_type, pointers_to, parameter_stars, result_type}
 use Rattle.c_typed.specs.Marks as marks
-use Rattle.c_typed.specs.Marks.{Mark, tag, field, global, prototype, function, local, opens, closes, History, has_tag, globals_in, functions_in}
+use Rattle.c_typed.specs.Marks.{Mark, tag, field, global, prototype, function, opens, closes, History, has_tag, globals_in, functions_in}
 use Rattle.c_typed.specs.Whole.{Whole}
-use Rattle.c_typed.specs.Parts.{Place, Part, marked, tokens, mark, separated, in_turn, ◌<⊗◌, ◌⊗>◌}
+use Rattle.c_typed.specs.Parts.{Part, marked, separated, in_turn}
 use Rattle.c_typed.specs.Scopes.{Scopes, left, scopes_of}
 use Rattle.c_typed.specs.Decls as decls
 use Rattle.c_typed.specs.Decls.{field_item, fields, named, nameless, proto_parameter}
@@ -31,7 +30,7 @@ use Rattle.c_typed.specs.IsWell.{Context}
 use Rattle.c_typed.proofs.Quiet.{quiet_base, no_marks}
 use Rattle.c_typed.proofs.Balanced.{Balanced, variable, marked_append, unchanged, left_behind, tags_outside, globals_outside, functions_outside}
 use Rattle.c_typed.proofs.BalancedStmts.{balanced_quiet, join, balanced_separated, all_balanced, balanced_parameters, balanced_function_body}
-use Rattle.c_typed.proofs.WellParts.{AllScopes, IsBound}
+use Rattle.c_typed.proofs.WellParts.{AllScopes}
 use Rattle.c_typed.proofs.WellMarks.{Tagged}
 use Rattle.c_typed.proofs.WellFunction.{IsOuter, quiet_result}
 

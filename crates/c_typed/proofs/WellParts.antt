@@ -1,16 +1,14 @@
 -- What stands before a place fits a context, and what holds of the value of a part that breaks no rule.
-use Rattle.std.proofs.Common.{◌≡◌, ℕ, ◌<◌, Bool, true, false, List, [], ◌∷◌, ◌++◌, map, length, Option, Some, None, refl, ap, sym, ◌∙◌, subst}
+use Rattle.std.proofs.Common.{◌≡◌, ℕ, ◌<◌, Bool, true, false, List, [], ◌∷◌, ◌++◌, length, Option, Some, None, refl, ap, sym, ◌∙◌, subst}
 use Rattle.std.specs.Prelude.{slice_get, nat_eq}
 use Rattle.dfi_base.specs.declared.numbers.Line.{Line}
-use Rattle.c_typed.specs.declared.types.ObjectType.{ObjectType}
 use Rattle.c_typed.specs.Types.{place_of}
 use Rattle.c_typed.specs.Marks.{Mark, local, opens, closes, History, Variable, locals_in, result_at, has_tag}
 use Rattle.c_typed.specs.Whole.{Whole}
 use Rattle.c_typed.specs.Faults.{Rule, Fault}
-use Rattle.c_typed.specs.Parts.{Place, Judged, Part, marked, tokens, given, mark, joined, behind, both_values, kept_by, ruled_by, obeys, refused, with_faults, separated, in_turn, ◌⊗◌, ◌<⊗◌, ◌⊗>◌, ◌<$>◌}
+use Rattle.c_typed.specs.Parts.{Place, Part, marked, tokens, given, joined, behind, both_values, kept_by, ruled_by, obeys, refused, ◌<$>◌}
 use Rattle.c_typed.specs.Scopes.{Binding, Scopes, bound, left, scopes_of, find_in, find}
 use Rattle.c_typed.specs.IsWell.{Context}
-use Rattle.c_typed.proofs.Balanced.{marked_append}
 use Rattle.c_typed.proofs.Quiet.{no_marks}
 
 -- Options and lists.

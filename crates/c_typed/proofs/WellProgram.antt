@@ -1,5 +1,5 @@
 -- Every typed program is well-formed.
-use Rattle.std.proofs.Common.{◌≡◌, ℕ, zero, suc, ◌+◌, ◌<◌, ◌≤◌, Bool, true, false, List, [], ◌∷◌, ◌++◌, map, length, Option, Some, None, refl, ap, sym, ◌∙◌, subst, arith}
+use Rattle.std.proofs.Common.{◌≡◌, ℕ, ◌+◌, ◌<◌, ◌≤◌, List, [], ◌∷◌, map, length, Some, refl, sym, subst, arith}
 use Rattle.std.specs.Prelude.{slice_get, nat_lt}
 use Rattle.std.proofs.lemmas.Bool.Decides.{nat_tests}
 use Rattle.c_ast.specs.Ast.{Ast, IsBuilt}
@@ -18,7 +18,6 @@ use Rattle.c_typed.proofs.WellParts.{none_second, none_some}
 use Rattle.c_typed.proofs.WellStmts.{unless_none}
 use Rattle.c_typed.proofs.WellFunctions.{AllOf, all_at, all_from}
 use Rattle.c_typed.proofs.WellMarks.{IsShaped}
-use Rattle.c_typed.proofs.WellFunction.{IsTabled}
 use Rattle.c_typed.proofs.WellStructs.{IsStructured, sizes_limited}
 use Rattle.c_typed.proofs.WellEarlier.{Earlier, EarlierFrom, all_structs_earlier, earlier_at}
 use Rattle.c_typed.proofs.WellSizes.{HasWords, words_all, sizes_positive, all_some}

@@ -10,7 +10,6 @@ use Rattle.c_ast.specs.declared.program.Field.{Field}
 use Rattle.c_ast.specs.declared.program.StructDef.{StructDef}
 use Rattle.c_ast.specs.declared.program.Item.{Item}
 use Rattle.c_typed.specs.declared.types.BaseType.{BaseType}
-use Rattle.c_typed.specs.declared.types.ObjectType.{ObjectType}
 use Rattle.c_typed.specs.declared.program.Struct.{Struct}
 use Rattle.c_typed.specs.Types.{words_of, item_words, times}
 use Rattle.c_typed.specs.Whole.{Member, member, members, members_words, sizes_of, struct_defs}

@@ -1,6 +1,6 @@
 -- The fields of structs that break no rule are well-formed, and so are the bases of the results of functions.
-use Rattle.std.proofs.Common.{◌≡◌, ℕ, zero, suc, ◌+◌, ◌*◌, ◌<◌, ◌≤◌, Bool, true, false, ◌&&◌, not, List, [], ◌∷◌, ◌++◌, map, length, get_or, Option, Some, None, refl, ap, sym, ◌∙◌, subst, arith}
-use Rattle.std.specs.Prelude.{slice_get, nat_eq, nat_le}
+use Rattle.std.proofs.Common.{◌≡◌, ℕ, zero, suc, ◌+◌, ◌*◌, ◌<◌, ◌≤◌, Bool, true, false, not, List, [], ◌∷◌, ◌++◌, map, length, get_or, Some, refl, ap, sym, ◌∙◌, subst, arith}
+use Rattle.std.specs.Prelude.{nat_eq, nat_le}
 use Rattle.std.proofs.lemmas.List.{append_assoc}
 use Rattle.std.proofs.lemmas.Bool.Decides.{nat_tests}
 use Rattle.c_ast.specs.declared.decl.Base.{Base}
@@ -17,16 +17,15 @@ use Rattle.c_typed.specs.declared.program.Struct.{Struct}
 use Rattle.c_typed.specs.Types.{place_of, base_type, declared_type, result_type, words_of, item_words, base_words, times}
 use Rattle.c_typed.specs.Marks as marks
 use Rattle.c_typed.specs.Marks.{Mark, field, History, field_words}
-use Rattle.c_typed.specs.Whole.{Whole, Member, member, members, members_words, sizes_of, Signature, signature, signatures, struct_defs}
+use Rattle.c_typed.specs.Whole.{Whole, Member, member, members, members_words, sizes_of, Signature, signature, struct_defs}
 use Rattle.c_typed.specs.Faults as faults
 use Rattle.c_typed.specs.Faults.{unless}
-use Rattle.c_typed.specs.Parts.{Place, Part, marked, behind, tokens, mark, separated, in_turn, with_faults, ◌<⊗◌, ◌⊗>◌}
+use Rattle.c_typed.specs.Parts.{Place, marked, behind, tokens, mark, separated, in_turn, with_faults, ◌<⊗◌, ◌⊗>◌}
 use Rattle.c_typed.specs.Tags.{base}
 use Rattle.c_typed.specs.Decls as decls
 use Rattle.c_typed.specs.Decls.{has_items, type_limit, field_item, fields}
 use Rattle.c_typed.specs.Programs as programs
-use Rattle.c_typed.specs.Programs.{struct, result_base, function_text, item}
-use Rattle.c_typed.specs.Typed.{Typed}
+use Rattle.c_typed.specs.Programs.{struct, result_base, function_text}
 use Rattle.c_typed.specs.IsWell.{IsBase, IsObject, words_in}
 use Rattle.c_typed.proofs.Quiet.{quiet_base}
 use Rattle.c_typed.proofs.WellParts.{none_first, none_second}

@@ -1,5 +1,5 @@
 -- The tables of a typed program are those of the whole text: its structs and what is called.
-use Rattle.std.proofs.Common.{◌≡◌, ℕ, zero, suc, ◌+◌, ◌<◌, ◌≤◌, Bool, true, false, List, [], ◌∷◌, ◌++◌, map, take, length, get_or, Option, Some, None, refl, ap, sym, ◌∙◌, subst, arith}
+use Rattle.std.proofs.Common.{◌≡◌, ℕ, zero, suc, ◌+◌, ◌<◌, List, [], ◌∷◌, ◌++◌, map, take, length, get_or, Option, Some, refl, ap, sym, ◌∙◌, arith}
 use Rattle.std.specs.Prelude.{slice_get, option_map}
 use Rattle.std.proofs.lemmas.Option.{slice_get-map}
 use Rattle.std.proofs.lemmas.List.{append-nil}
@@ -10,15 +10,15 @@ use Rattle.c_typed.specs.declared.types.ObjectType.{ObjectType}
 use Rattle.c_typed.specs.declared.stmt.Stmt.{Stmt}
 use Rattle.c_typed.specs.declared.program.Struct.{Struct}
 use Rattle.c_typed.specs.declared.program.Function.{Function}
-use Rattle.c_typed.specs.Types.{result_type, place_of}
-use Rattle.c_typed.specs.Marks.{Mark, closes}
+use Rattle.c_typed.specs.Types.{result_type}
+use Rattle.c_typed.specs.Marks.{closes}
 use Rattle.c_typed.specs.Whole.{Whole, Member, Signature, signature, signatures, parameter_types, members_words, sizes_of, whole_of, struct_defs, members}
-use Rattle.c_typed.specs.Parts.{Place, Part, behind, in_turn}
+use Rattle.c_typed.specs.Parts.{Place, behind, in_turn}
 use Rattle.c_typed.specs.Decls.{joined_lists}
 use Rattle.c_typed.specs.Programs as programs
 use Rattle.c_typed.specs.Programs.{struct, struct_by, global_decl, function_text, proto, item, variables_in}
 use Rattle.c_typed.specs.IsWell.{Callee, callee_of, objects_of, sizes_in}
-use Rattle.c_typed.proofs.WellParts.{none_some, some_is, both_are, changed_is}
+use Rattle.c_typed.proofs.WellParts.{some_is, both_are, changed_is}
 use Rattle.c_typed.proofs.WellFunctions.{locals_of, locals_append, parameters_local}
 use Rattle.c_typed.proofs.WellOuter.{function_marks}
 use Rattle.c_typed.proofs.WellMarks.{IsShaped}

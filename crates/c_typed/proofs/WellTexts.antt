@@ -1,22 +1,17 @@
 -- The structs, globals and results of a whole text that breaks no rule, item by item.
-use Rattle.std.proofs.Common.{◌≡◌, ℕ, zero, suc, ◌+◌, ◌<◌, ◌≤◌, Bool, true, false, List, [], ◌∷◌, ◌++◌, map, length, get_or, Option, Some, None, refl, ap, sym, ◌∙◌, subst, arith}
+use Rattle.std.proofs.Common.{◌≡◌, ◌+◌, List, [], ◌∷◌, ◌++◌, map, refl, ap, sym, ◌∙◌, subst}
 use Rattle.std.proofs.lemmas.List.{append-nil}
 use Rattle.c_ast.specs.declared.decl.Decl.{Decl}
-use Rattle.c_ast.specs.declared.decl.DeclItem.{DeclItem}
-use Rattle.c_ast.specs.declared.program.StructDef.{StructDef}
-use Rattle.c_ast.specs.declared.program.Function.{Function as SourceFunction}
 use Rattle.c_ast.specs.declared.program.Item.{Item}
-use Rattle.c_typed.specs.declared.types.ObjectType.{ObjectType}
 use Rattle.c_typed.specs.declared.program.Struct.{Struct}
 use Rattle.c_typed.specs.declared.program.Global.{Global}
 use Rattle.c_typed.specs.Types.{base_type, declared_type, result_type}
-use Rattle.c_typed.specs.Marks.{Mark, History, global_words}
-use Rattle.c_typed.specs.Whole.{Whole, Member, members, Signature, signature, signatures, struct_defs}
-use Rattle.c_typed.specs.Parts.{Place, Part, marked, behind, tokens, separated, ◌<⊗◌, ◌⊗>◌}
+use Rattle.c_typed.specs.Whole.{Whole, signatures, struct_defs}
+use Rattle.c_typed.specs.Parts.{Place, marked, behind, separated}
 use Rattle.c_typed.specs.Tags.{base}
 use Rattle.c_typed.specs.Decls as decls
 use Rattle.c_typed.specs.Decls.{joined_lists}
-use Rattle.c_typed.specs.Programs.{global_item, global_decl, started, globals_by, struct, item}
+use Rattle.c_typed.specs.Programs.{global_item, global_decl, started, globals_by, item}
 use Rattle.c_typed.specs.IsWell.{IsGlobal}
 use Rattle.c_typed.proofs.Quiet.{quiet_base}
 use Rattle.c_typed.proofs.WellParts.{none_first, none_second}

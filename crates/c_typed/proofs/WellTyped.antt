@@ -1,5 +1,5 @@
 -- The typed program of a text that breaks no rule: its tables, and its functions and globals are well-formed.
-use Rattle.std.proofs.Common.{◌≡◌, ℕ, zero, suc, ◌+◌, ◌<◌, ◌≤◌, pos, Bool, true, false, List, [], ◌∷◌, ◌++◌, map, length, get_or, Option, Some, None, refl, ap, sym, ◌∙◌, subst, arith}
+use Rattle.std.proofs.Common.{◌≡◌, ℕ, zero, suc, ◌≤◌, pos, List, [], ◌∷◌, map, length, get_or, Some, refl, ap, sym, ◌∙◌, subst, arith}
 use Rattle.std.specs.Prelude.{slice_get, nat_lt}
 use Rattle.c_ast.specs.Ast.{Ast}
 use Rattle.c_ast.specs.declared.program.StructDef.{StructDef}
@@ -7,8 +7,7 @@ use Rattle.c_ast.specs.declared.program.Item.{Item}
 use Rattle.c_typed.specs.declared.types.ObjectType.{ObjectType}
 use Rattle.c_typed.specs.declared.program.Struct.{Struct}
 use Rattle.c_typed.specs.declared.program.Global.{Global}
-use Rattle.c_typed.specs.declared.program.Function.{Function}
-use Rattle.c_typed.specs.Whole.{Whole, Member, members, Signature, signatures, whole_of, struct_defs}
+use Rattle.c_typed.specs.Whole.{Whole, Member, members, whole_of, struct_defs}
 use Rattle.c_typed.specs.Faults.{unless, no_main}
 use Rattle.c_typed.specs.Parts.{Place}
 use Rattle.c_typed.specs.Decls.{type_limit, joined_lists}

@@ -1,15 +1,12 @@
 -- Types of well-formed programs, and one level of an expression above well-formed operands.
-use Rattle.std.proofs.Common.{◌≡◌, ℕ, zero, suc, ◌+◌, ◌*◌, ◌<◌, ◌≤◌, Bool, true, false, ◌&&◌, List, [], ◌∷◌, map, length, get_or, Option, Some, None, refl, ap, sym, ◌∙◌, subst, arith}
-use Rattle.std.specs.Prelude.{slice_get, slice_index_or, nat_eq, nat_lt, All, pos}
+use Rattle.std.proofs.Common.{◌≡◌, ℕ, zero, suc, ◌+◌, ◌*◌, ◌<◌, ◌≤◌, Bool, true, false, List, [], ◌∷◌, map, length, get_or, Option, Some, None, refl, ap, sym, ◌∙◌, subst, arith}
+use Rattle.std.specs.Prelude.{slice_get, nat_eq, nat_lt, All}
 use Rattle.std.proofs.lemmas.List.Elements.{All-nil}
-use Rattle.std.proofs.lemmas.Option.{slice_get-map}
-use Rattle.std.proofs.lemmas.Bool.Decides.{nat_tests}
-use Rattle.c_ast.specs.declared.decl.TypeName.{TypeName}
 use Rattle.c_typed.specs.declared.types.BaseType.{BaseType}
 use Rattle.c_typed.specs.declared.types.ObjectType.{ObjectType}
 use Rattle.c_typed.specs.declared.types.ExprType.{ExprType}
 use Rattle.c_typed.specs.declared.expr.Expr.{Expr}
-use Rattle.c_typed.specs.declared.expr.Form.{Form, roll-Form, out-Form, out-roll-Form}
+use Rattle.c_typed.specs.declared.expr.Form.{Form, out-roll-Form}
 use Rattle.c_typed.specs.declared.expr.Form.TheOpen.{Form-F}
 use Rattle.c_typed.specs.declared.program.Struct.{Struct}
 use Rattle.c_typed.specs.Types.{words_of, item_words, base_words, times, scalar, scalar_type, value_by, value_type}
@@ -17,7 +14,7 @@ use Rattle.c_typed.specs.Whole.{Whole, Member, Signature}
 use Rattle.c_typed.specs.Exprs.{made, taken, value_by_type, field_by}
 use Rattle.c_typed.specs.Decls.{type_limit}
 use Rattle.c_typed.specs.Programs.{main_number}
-use Rattle.c_typed.specs.IsWell.{IsBase, IsObject, IsTyping, sizes_in, Context, Callee, IsLayer, operands_of, IsExpr, AreExprs, none, each, known}
+use Rattle.c_typed.specs.IsWell.{IsBase, IsObject, IsTyping, sizes_in, Context, IsLayer, operands_of, IsExpr, AreExprs, none, each, known}
 use Rattle.c_typed.proofs.WellParts.{none_some, some_is}
 
 -- What a program's whole text is to a context.

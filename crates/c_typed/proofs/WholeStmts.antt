@@ -1,5 +1,5 @@
 -- A part that breaks no rule has a value: statements and programs.
-use Rattle.std.proofs.Common.{◌≡◌, ℕ, List, [], ◌∷◌, ◌++◌, map, Option, Some, None, refl, sym, subst}
+use Rattle.std.proofs.Common.{List, [], ◌∷◌, ◌++◌, map, Option, Some, None, sym, subst}
 use Rattle.dfi_base.specs.declared.numbers.Line.{Line}
 use Rattle.c_ast.specs.declared.ident.Ident.{Ident}
 use Rattle.c_ast.specs.declared.decl.Base.{Base}
@@ -28,15 +28,15 @@ use Rattle.c_typed.specs.declared.stmt.Stmt.{Stmt, roll-Stmt as roll}
 use Rattle.c_typed.specs.Types as types
 use Rattle.c_typed.specs.Marks.{Mark}
 use Rattle.c_typed.specs.Whole.{Whole}
-use Rattle.c_typed.specs.Parts.{Place, Part, tokens, given, mark, ◌<⊗◌}
+use Rattle.c_typed.specs.Parts.{Part, tokens, mark, ◌<⊗◌}
 use Rattle.c_typed.specs.Exprs.{expr, value, place}
 use Rattle.c_typed.specs.Decls as decls
 use Rattle.c_typed.specs.Decls.{field_item, fields, declared, valued, local_item, local_decl, parameter_base, parameter, nameless, named, proto_parameter}
-use Rattle.c_typed.specs.Stmts.{Layer, empty, simple, condition, value_there, condition_there, within_loop, block_item, body, branch_of, start, step, second, stmt_step, stmt}
+use Rattle.c_typed.specs.Stmts.{Layer, empty, simple, condition, value_there, condition_there, within_loop, block_item, body, branch_of, start, step, stmt_step, stmt}
 use Rattle.c_typed.specs.Programs as programs
 use Rattle.c_typed.specs.Programs.{struct, global_item, global_decl, result_base, parameters, with_part, function_body, function_text, function_item, proto_parameters, proto, item, text}
 use Rattle.c_typed.proofs.Levels.{items_of, blocks_of, first_items, mapped, stmt_roll}
-use Rattle.c_typed.proofs.WholeExprs.{Has, IsWhole, whole_tokens, whole_mark, whole_given, whole_map, whole_obeys, whole_with, beside, before, after, AllWhole, none, each, all_whole, whole_in_turn, whole_separated, whole_base, whole_value, whole_place, whole_expr, whole_call_of}
+use Rattle.c_typed.proofs.WholeExprs.{IsWhole, whole_tokens, whole_mark, whole_given, whole_map, whole_obeys, whole_with, beside, before, after, AllWhole, none, each, all_whole, whole_in_turn, whole_separated, whole_base, whole_value, whole_place, whole_expr, whole_call_of}
 
 value_of : (w : Whole) (e : SourceExpr) → IsWhole (value (expr w e))
 value_of w e = whole_value (expr w e) (whole_expr w e)

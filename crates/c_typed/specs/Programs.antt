@@ -200,12 +200,11 @@ abbrev pub types_in : Option ObjectType → List ObjectType → List ObjectType
 types_in None ts = ts
 types_in (Some t) ts = t ∷ ts
 
--- where a tag is of no struct, the types are not compared
+-- where a tag of the prototype is of no struct, which is a fault of its own, the types are not compared
 abbrev pub agrees : Whole → Option ObjectType → List ObjectType → Option Signature → Bool
 agrees w result types None = true
 agrees w result types (Some s) =
-    not (have_structs w (types_in result types) && have_structs w (types_in s.result s.parameters))
-    || (same_result result s.result && same_objects types s.parameters)
+    not (have_structs w (types_in result types)) || (same_result result s.result && same_objects types s.parameters)
 
 abbrev pub function_of : Whole → ℕ → Option Signature
 function_of w x = slice_get w.functions (place_of x (map (λ s. s.name) w.functions))

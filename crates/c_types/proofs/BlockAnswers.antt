@@ -12,7 +12,7 @@ use Rattle.c_typed.specs.declared.stmt.Stmt.TheOpen.{Stmt-F}
 use Rattle.c_types.specs.declared.outline.Outline.{Outline}
 use Rattle.c_types.specs.declared.known.Known.{Known}
 use Rattle.c_types.specs.declared.known.Around.{Around}
-use Rattle.c_typed.specs.Marks.{Mark, Opening, opens, closes, block, loop, branch, History, around}
+use Rattle.c_typed.specs.Marks.{Mark, opens, closes, block, loop, branch, History}
 use Rattle.c_typed.specs.Marks as marks
 use Rattle.c_typed.specs.Whole.{Whole}
 use Rattle.c_typed.specs.Parts.{Place, Part, marked, tokens, mark, behind, in_turn, ◌<⊗◌, ◌⊗>◌}

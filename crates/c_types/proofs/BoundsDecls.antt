@@ -15,7 +15,7 @@ use Rattle.c_typed.specs.declared.types.ObjectType.{ObjectType}
 use Rattle.std.specs.Prelude
 use Rattle.c_typed.specs.declared.fault.BigWhat.{BigWhat}
 use Rattle.c_typed.specs.Marks
-use Rattle.c_typed.specs.Marks.{Mark, History}
+use Rattle.c_typed.specs.Marks.{Mark}
 use Rattle.c_typed.specs.Faults
 use Rattle.c_typed.specs.Types
 use Rattle.c_typed.specs.Whole.{Whole}

@@ -1,11 +1,10 @@
 -- What the walk finds of a call is what the definition judges of it.
-use Rattle.std.proofs.Common.{◌≡◌, ◌≢◌, ℕ, ◌+◌, ◌<◌, ◌≤◌, Bool, true, false, List, [], ◌∷◌, ◌++◌, map, Option, Some, None, Ok, Err, slice_get, refl, ap, sym, ◌∙◌, subst, arith}
+use Rattle.std.proofs.Common.{◌≡◌, ℕ, ◌+◌, ◌<◌, ◌≤◌, Bool, true, false, List, [], ◌∷◌, ◌++◌, Option, Some, None, Ok, slice_get, refl, ap, sym, ◌∙◌, subst, arith}
 use Rattle.dfi_base.specs.declared.numbers.Line.{Line}
 use Rattle.c_ast.specs.declared.ident.Ident.{Ident}
 use Rattle.c_typed.specs.declared.types.ExprType.{ExprType}
 use Rattle.c_typed.specs.declared.expr.Expr.{Expr}
 use Rattle.c_types.specs.declared.outline.Outline.{Outline}
-use Rattle.c_types.specs.declared.outline.Spelling.{Spelling}
 use Rattle.c_types.specs.declared.outline.Signature.{Signature as OutlineSignature}
 use Rattle.c_types.specs.declared.known.Known.{Known}
 use Rattle.c_typed.specs.declared.expr.Form.TheOpen.{Form-F}
@@ -18,10 +17,9 @@ use Rattle.c_typed.specs.Exprs.{Reading, Size, called, call_as}
 use Rattle.c_types.specs.Answers.{Answers}
 use Rattle.c_types.specs.Steps.{Found, ◌>>=◌, broken, kept}
 use Rattle.c_types.specs.Tables.{looked}
-use Rattle.c_types.specs.Outlines.{spelled, bound}
 use Rattle.c_types.specs.ExprWalk as walk
 use Rattle.c_types.specs.ExprWalk.{Finding}
-use Rattle.c_types.proofs.AnswerLaws.{AllBefore, AllFrom, least_append}
+use Rattle.c_types.proofs.AnswerLaws.{AllFrom, least_append}
 use Rattle.c_types.proofs.Bounds.{IsInside, IsBounded, inside, inside_tokens, inside_given, inside_joined, from_append}
 use Rattle.c_types.proofs.BoundsExprs.{bounded_value}
 use Rattle.c_types.proofs.FormLaws.{after_tokens, before_tokens}

@@ -18,7 +18,7 @@ use Rattle.c_typed.specs.Parts.{Place, Part, tokens, joined, behind, obeys, ◌<
 use Rattle.c_typed.specs.Tags
 use Rattle.c_typed.specs.Tags.{type_name}
 use Rattle.c_typed.specs.Exprs as defined
-use Rattle.c_typed.specs.Exprs.{Reading, Size, operands}
+use Rattle.c_typed.specs.Exprs.{Reading, operands}
 use Rattle.c_types.specs.Answers.{Answers, Rules}
 use Rattle.c_types.specs.Steps.{Found, ◌>>=◌, kept, unless_kept}
 use Rattle.c_types.specs.Outlines as outlines

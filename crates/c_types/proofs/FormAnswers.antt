@@ -1,5 +1,5 @@
 -- What the walk finds of a name, a field, a cast and a size is what the definition judges of it.
-use Rattle.std.proofs.Common.{◌≡◌, ◌≢◌, ℕ, zero, suc, ◌+◌, Bool, true, false, ◌&&◌, List, [], ◌∷◌, ◌++◌, map, get_or, Option, Some, None, Ok, Err, slice_get, nat_eq, refl, ap, sym, ◌∙◌, subst, arith}
+use Rattle.std.proofs.Common.{◌≡◌, ℕ, suc, ◌+◌, Bool, true, false, List, [], ◌∷◌, map, get_or, Option, Some, None, Ok, Err, slice_get, nat_eq, refl, ap, sym, ◌∙◌, subst, arith}
 use Rattle.dfi_base.specs.declared.numbers.Line.{Line}
 use Rattle.c_ast.specs.declared.ident.Ident.{Ident}
 use Rattle.c_ast.specs.declared.decl.TypeName.{TypeName}
@@ -8,27 +8,25 @@ use Rattle.c_typed.specs.declared.types.ObjectType.{ObjectType}
 use Rattle.c_typed.specs.declared.types.ExprType.{ExprType}
 use Rattle.c_typed.specs.declared.expr.Expr.{Expr}
 use Rattle.c_types.specs.declared.outline.Outline.{Outline}
-use Rattle.c_types.specs.declared.outline.Spelling.{Spelling}
 use Rattle.c_types.specs.declared.outline.Shape.{Shape}
 use Rattle.c_types.specs.declared.outline.Member.{Member as OutlineMember}
 use Rattle.c_types.specs.declared.scopes.Home.{Home}
 use Rattle.c_types.specs.declared.scopes.Binding.{Binding}
 use Rattle.c_types.specs.declared.known.Known.{Known}
-use Rattle.c_typed.specs.Types.{fits}
 use Rattle.c_typed.specs.Marks.{History}
-use Rattle.c_typed.specs.Whole.{Whole, Member, Builtin, Meaning, meaning, is_main}
+use Rattle.c_typed.specs.Whole.{Whole, Builtin, Meaning, meaning, is_main}
 use Rattle.c_typed.specs.Faults.{Rule, unknown, mismatch}
-use Rattle.c_typed.specs.Parts.{Place, Judged, Part, tokens, joined, behind, obeys, refused, ◌<⊗◌, ◌⊗>◌, ◌⊗◌, ◌<$>◌}
+use Rattle.c_typed.specs.Parts.{Place, Part, tokens, behind, obeys, refused, ◌<⊗◌, ◌⊗>◌, ◌⊗◌}
 use Rattle.c_typed.specs.Tags.{type_name}
 use Rattle.c_typed.specs.Exprs as defined
-use Rattle.c_typed.specs.Exprs.{Layer, Reading, Size, one_of, many_of, field_by, found_by, field_of, with_struct, struct_at, struct_behind, name_as, is_malloc}
+use Rattle.c_typed.specs.Exprs.{Layer, Reading, one_of, many_of, field_by, found_by, field_of, with_struct, struct_at, struct_behind, name_as, is_malloc}
 use Rattle.c_types.specs.Answers.{least, Answers}
 use Rattle.c_types.specs.Steps.{Found, ◌>>=◌, broken, kept}
 use Rattle.c_types.specs.Tables.{looked}
-use Rattle.c_types.specs.Outlines.{spelled, bound, type_name_walk}
+use Rattle.c_types.specs.Outlines.{type_name_walk}
 use Rattle.c_types.specs.ExprWalk as walk
 use Rattle.c_types.specs.ExprWalk.{Finding}
-use Rattle.c_types.proofs.Bounds.{IsInside, IsBounded, inside, inside_tokens, inside_joined}
+use Rattle.c_types.proofs.Bounds.{IsBounded, inside, inside_tokens, inside_joined}
 use Rattle.c_types.proofs.BoundsExprs.{bounded_value, bounded_type_name}
 use Rattle.c_types.proofs.FormLaws.{after_tokens, before_tokens}
 use Rattle.c_typed.proofs.Quiet.{quiet_type_name, no_marks, before_same}

@@ -16,7 +16,6 @@ use Rattle.c_typed.specs.Parts.{Place, marked}
 use Rattle.c_typed.specs.Programs.{variables_in, function_text, function_item}
 use Rattle.c_types.specs.Steps.{Found, ◌>>=◌}
 use Rattle.c_types.specs.Outlines as outlines
-use Rattle.c_types.specs.Outlines.{spelled, base_walk}
 use Rattle.c_types.specs.KnownSteps.{exited}
 use Rattle.c_types.specs.ProgramSteps.{function_begun}
 use Rattle.c_types.specs.DeclWalk.{params_walk}

@@ -8,14 +8,14 @@ use Rattle.c_typed.specs.declared.stmt.Stmt.{Stmt}
 use Rattle.c_types.specs.declared.outline.Outline.{Outline}
 use Rattle.c_types.specs.declared.known.Known.{Known}
 use Rattle.c_typed.specs.Marks as marks
-use Rattle.c_typed.specs.Marks.{Mark, function, closes, History}
+use Rattle.c_typed.specs.Marks.{Mark, function, History}
 use Rattle.c_typed.specs.Whole as whole
-use Rattle.c_typed.specs.Whole.{Whole, parameter_type, parameter_types}
+use Rattle.c_typed.specs.Whole.{Whole}
 use Rattle.c_typed.specs.Faults.{twice, mismatch, big}
 use Rattle.c_typed.specs.Parts.{Place, Part, marked, tokens, mark, behind, with_faults, ◌<⊗◌, ◌⊗>◌}
 use Rattle.c_typed.specs.Tags.{base}
 use Rattle.c_typed.specs.Programs as programs
-use Rattle.c_typed.specs.Programs.{function_limit, has_scalar_result, is_int, no_parameters, result_base, function_faults, parameters, function_body, variables_in, function_text, function_item}
+use Rattle.c_typed.specs.Programs.{function_limit, has_scalar_result, is_int, no_parameters, result_base, function_faults, parameters, function_body, function_text, function_item}
 use Rattle.c_types.specs.Steps.{Found, ◌>>=◌}
 use Rattle.c_types.specs.Tables.{looked}
 use Rattle.c_types.specs.Outlines as outlines
@@ -23,7 +23,7 @@ use Rattle.c_types.specs.Outlines.{spelled, base_walk}
 use Rattle.c_types.specs.ProgramSteps.{function_begun}
 use Rattle.c_types.specs.StmtWalk.{source_items_walk}
 use Rattle.c_types.specs.ProgramWalk as walk
-use Rattle.c_types.specs.ProgramWalk.{result_walk, around_body, parameter_count, function_of, function_name_walk, function_body_walk, function_text_walk, function_walk}
+use Rattle.c_types.specs.ProgramWalk.{result_walk, around_body, function_of, function_name_walk, function_body_walk, function_text_walk, function_walk}
 use Rattle.c_types.proofs.Bounds.{IsInside, inside, inside_tokens}
 use Rattle.c_types.proofs.BoundsExprs.{bounded_base}
 use Rattle.c_types.proofs.BoundsDecls.{before, after, inside_mark, inside_with}

@@ -1,9 +1,7 @@
 -- What the walk finds of `return`, `break` and `continue` is what the definition judges of them.
-use Rattle.std.proofs.Common.{◌≡◌, ◌≢◌, ℕ, ◌+◌, ◌≤◌, Bool, true, false, not, List, [], ◌∷◌, ◌++◌, Option, Some, None, Ok, Err, nat_eq, nat_lt, nat_le, refl, ap, sym, ◌∙◌, subst, arith}
-use Rattle.std.proofs.lemmas.List.{append-nil}
+use Rattle.std.proofs.Common.{◌≡◌, ℕ, ◌+◌, Bool, true, false, not, [], ◌∷◌, ◌++◌, Option, Some, None, Ok, Err, refl, ap, sym, ◌∙◌, subst, arith}
 use Rattle.dfi_base.specs.declared.numbers.Line.{Line}
 use Rattle.c_ast.specs.declared.expr.Expr.{Expr as SourceExpr}
-use Rattle.c_typed.specs.declared.fault.TypeFault.{TypeFault}
 use Rattle.c_typed.specs.declared.types.ObjectType.{ObjectType}
 use Rattle.c_typed.specs.declared.expr.Expr.{Expr}
 use Rattle.c_typed.specs.declared.stmt.Stmt.{Stmt, roll-Stmt}
@@ -12,11 +10,11 @@ use Rattle.c_types.specs.declared.known.Known.{Known}
 use Rattle.c_types.specs.declared.known.Around.{Around}
 use Rattle.c_typed.specs.Marks.{History, around, in_loop, in_branch, result_at}
 use Rattle.c_typed.specs.Whole.{Whole}
-use Rattle.c_typed.specs.Faults.{Fault, mismatch, escape, unless, told}
-use Rattle.c_typed.specs.Parts.{Place, Judged, Part, tokens, behind, kept_by, ruled_by, obeys, with_faults, ◌<⊗◌, ◌⊗>◌, ◌<$>◌}
+use Rattle.c_typed.specs.Faults.{mismatch, escape, unless, told}
+use Rattle.c_typed.specs.Parts.{Place, Judged, Part, tokens, behind, kept_by, ruled_by, obeys, with_faults, ◌<⊗◌, ◌⊗>◌}
 use Rattle.c_typed.specs.Stmts as stmts
 use Rattle.c_typed.specs.Stmts.{Layer, returns, value_there}
-use Rattle.c_types.specs.Answers.{earlier, least, Answers}
+use Rattle.c_types.specs.Answers.{Answers}
 use Rattle.c_types.specs.Steps.{Found, ◌>>=◌, kept, unless_kept}
 use Rattle.c_types.specs.StmtWalk.{returned, within_loop, value_there_walk}
 use Rattle.c_ast.specs.declared.stmt.Stmt.TheOpen.{Stmt-F as Source}

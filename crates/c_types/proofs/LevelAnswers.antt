@@ -1,8 +1,8 @@
 -- What the walk finds of every expression is what the definition judges of it.
-use Rattle.std.proofs.Common.{◌≡◌, ℕ, List, [], ◌∷◌, map, Option, Some, None, Ok, Err, refl, ap, sym, ◌∙◌, subst, arith}
+use Rattle.std.proofs.Common.{◌≡◌, List, [], ◌∷◌, map, None, refl, sym, subst}
 use Rattle.dfi_base.specs.declared.numbers.Line.{Line}
 use Rattle.c_ast.specs.declared.expr.Expr.{ind-Expr, Expr as SourceExpr}
-use Rattle.c_ast.specs.declared.expr.Form.{map-Form, roll-Form, Form as SourceForm, out-Form}
+use Rattle.c_ast.specs.declared.expr.Form.{map-Form, roll-Form, Form as SourceForm}
 use Rattle.c_ast.specs.declared.expr.Form.TheOpen.{Form-F as Source}
 use Rattle.c_typed.specs.declared.expr.Expr.{Expr}
 use Rattle.c_typed.specs.declared.expr.Form.TheOpen.{Form-F}
@@ -11,7 +11,7 @@ use Rattle.c_types.specs.declared.known.Known.{Known}
 use Rattle.c_typed.specs.Marks.{History}
 use Rattle.c_typed.specs.Whole.{Whole}
 use Rattle.c_typed.specs.Faults.{mismatch}
-use Rattle.c_typed.specs.Parts.{Place, Part, tokens, obeys, ◌<⊗◌, ◌⊗>◌, ◌<$>◌}
+use Rattle.c_typed.specs.Parts.{Place, Part, tokens, ◌<⊗◌, ◌⊗>◌}
 use Rattle.c_typed.specs.Tags.{type_name}
 use Rattle.c_typed.specs.Exprs as defined
 use Rattle.c_typed.specs.Exprs.{Reading, reading, one_of, expr, form_step, struct_at, struct_behind}
@@ -20,7 +20,7 @@ use Rattle.c_types.specs.Steps.{Found, ◌>>=◌}
 use Rattle.c_types.specs.Outlines.{type_name_walk}
 use Rattle.c_types.specs.ExprWalk as walk
 use Rattle.c_types.specs.ExprWalk.{Finding, finding, form_walk, expr_walk}
-use Rattle.c_types.proofs.Bounds.{IsBounded, inside_tokens, bounded_first, bounded_second}
+use Rattle.c_types.proofs.Bounds.{inside_tokens, bounded_first, bounded_second}
 use Rattle.c_types.proofs.BoundsExprs.{bounded, bounded_type_name}
 use Rattle.c_typed.proofs.Levels.{mapped_form, form_roll, expr_roll, expr_reads, read_form}
 use Rattle.c_types.proofs.WalkLevels.{find_form, found_form, walk_form_roll, walk_reads}

@@ -4,7 +4,7 @@ use Rattle.std.proofs.lemmas.Bool.Decides.{nat_tests}
 use Rattle.dfi_base.specs.declared.numbers.Line.{Line}
 use Rattle.c_typed.specs.declared.fault.BigWhat.{BigWhat}
 use Rattle.c_typed.specs.declared.fault.TypeFault.{TypeFault}
-use Rattle.c_typed.specs.Faults.{Rule, Fault, twice, mismatch, big, unless, told, told_by}
+use Rattle.c_typed.specs.Faults.{Fault, twice, mismatch, big, unless, told}
 use Rattle.c_types.specs.Answers.{precedes, earlier, least}
 use Rattle.c_types.specs.Steps.{Found}
 use Rattle.c_types.specs.DeclWalk.{declarator_rule}

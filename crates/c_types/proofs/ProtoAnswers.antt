@@ -125,8 +125,7 @@ module _ (w : Whole) (o : Outline) (is : IsOutline w o) (counted : length w.stru
   agrees_same : (result : Option ObjectType) (ts : List ObjectType) (s : OutlineSignature) → walk.agrees o result ts s ≡ programs.agrees w result ts (Some (signature_of s))
   agrees_same result ts s =
       let same = same_result result s.result && same_objects ts s.parameters in
-      ap (λ b. not (b && walk.have_all o s.result s.parameters) || same) (structs_same (types_in result ts))
-      ∙ ap (λ b. not (programs.have_structs w (types_in result ts) && b) || same) (structs_same (types_in s.result s.parameters))
+      ap (λ b. not b || same) (structs_same (types_in result ts))
 
   list_types : (ps : List ProtoParam) → walk.proto_types o (ProtoParams.List ps) ≡ programs.proto_types w.tags (ProtoParams.List ps)
   list_types [] = refl

@@ -1,24 +1,23 @@
 -- What the walk finds of simple statements and conditions is what the definition judges of them.
-use Rattle.std.proofs.Common.{◌≡◌, ◌≢◌, ℕ, ◌+◌, List, [], ◌∷◌, ◌++◌, map, Option, Some, None, Ok, Err, refl, ap, sym, ◌∙◌, subst}
+use Rattle.std.proofs.Common.{◌≡◌, map, Option, Some, None, refl, ◌∙◌, subst}
 use Rattle.dfi_base.specs.declared.numbers.Line.{Line}
 use Rattle.c_ast.specs.declared.expr.Expr.{Expr as SourceExpr}
 use Rattle.c_ast.specs.declared.stmt.AssignOp.{AssignOp}
 use Rattle.c_ast.specs.declared.stmt.Simple.{Simple}
 use Rattle.c_typed.specs.declared.expr.Expr.{Expr}
-use Rattle.c_typed.specs.declared.stmt.Condition.{Condition}
-use Rattle.c_typed.specs.declared.stmt.Stmt.{Stmt, roll-Stmt}
+use Rattle.c_typed.specs.declared.stmt.Stmt.{roll-Stmt}
 use Rattle.c_typed.specs.declared.stmt.Stmt.TheOpen.{Stmt-F}
 use Rattle.c_types.specs.declared.outline.Outline.{Outline}
 use Rattle.c_types.specs.declared.known.Known.{Known}
 use Rattle.c_typed.specs.Marks.{History}
 use Rattle.c_typed.specs.Whole.{Whole}
 use Rattle.c_typed.specs.Faults.{mismatch}
-use Rattle.c_typed.specs.Parts.{Place, Part, tokens, behind, obeys, ◌⊗◌, ◌<⊗◌, ◌⊗>◌, ◌<$>◌}
+use Rattle.c_typed.specs.Parts.{Place, tokens, behind, obeys, ◌⊗◌, ◌<⊗◌, ◌⊗>◌}
 use Rattle.c_typed.specs.Exprs.{Reading, expr, value, place, call}
 use Rattle.c_typed.specs.Stmts as stmts
 use Rattle.c_typed.specs.Stmts.{Layer, tested, assigned, counted, simple, condition, condition_by, value_there, condition_there}
 use Rattle.c_types.specs.Answers.{Answers}
-use Rattle.c_types.specs.Steps.{Found, ◌>>=◌, kept}
+use Rattle.c_types.specs.Steps.{◌>>=◌, kept}
 use Rattle.c_types.specs.ExprWalk as walk
 use Rattle.c_types.specs.ExprWalk.{Finding, expr_walk}
 use Rattle.c_types.specs.StmtWalk.{condition_walk, condition_there_walk, simple_walk, counted_walk, value_there_walk}

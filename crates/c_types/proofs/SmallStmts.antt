@@ -22,7 +22,7 @@ use Rattle.c_typed.specs.Types.{declared_type}
 use Rattle.c_typed.specs.Marks as marks
 use Rattle.c_typed.specs.Marks.{locals_in, result_at, around, in_branch, opens, closes, loop, branch}
 use Rattle.c_typed.specs.Faults as faults
-use Rattle.c_typed.specs.Faults.{Fault, mismatch, escape, unless}
+use Rattle.c_typed.specs.Faults.{mismatch, escape, unless}
 use Rattle.c_typed.specs.Whole.{Whole}
 use Rattle.c_typed.specs.Parts.{Part, tokens, obeys, mark, with_faults, if_there, separated, in_turn, ◌⊗◌, ◌<⊗◌, ◌⊗>◌, ◌<$>◌}
 use Rattle.c_typed.specs.Tags.{base}

@@ -1,5 +1,5 @@
 -- What a global starts with, read off the form of its value.
-use Rattle.std.proofs.Common.{◌≡◌, ℤ, pos, Option, Some, None, refl, ap, sym, ◌∙◌}
+use Rattle.std.proofs.Common.{◌≡◌, ℤ, pos, Some, None, refl, ap, sym, ◌∙◌}
 use Rattle.c_ast.specs.declared.expr.UnaryOp.{UnaryOp}
 use Rattle.c_ast.specs.declared.expr.Expr.{Expr as SourceExpr}
 use Rattle.c_ast.specs.declared.expr.Form.TheVariants as form

@@ -16,7 +16,7 @@ use Rattle.c_typed.specs.Types.{fits, words_of}
 use Rattle.c_typed.specs.Marks.{History, local, is_declared, locals_in, frame_words}
 use Rattle.c_typed.specs.Whole.{Whole}
 use Rattle.c_typed.specs.Faults.{Fault, twice, mismatch, big, unless, told_by}
-use Rattle.c_typed.specs.Parts.{Place, Judged, Part, marked, tokens, mark, joined, behind, kept_by, ruled_by, obeys, with_faults, ◌<⊗◌, ◌⊗>◌, ◌<$>◌}
+use Rattle.c_typed.specs.Parts.{Place, Judged, Part, marked, tokens, behind, kept_by, ruled_by, obeys, with_faults, ◌<⊗◌, ◌⊗>◌}
 use Rattle.c_typed.specs.Exprs.{expr, value}
 use Rattle.c_typed.specs.Decls as decls
 use Rattle.c_typed.specs.Decls.{has_items, type_limit, frame_limit, name_at, declared, starts_with}

@@ -1,14 +1,13 @@
 -- A walk over an expression never finds want of memory.
-use Rattle.std.proofs.Common.{◌≡◌, ◌≢◌, ℕ, Bool, true, false, List, [], ◌∷◌, map, Option, Some, None, Ok, Err, slice_get, nat_eq, refl, ap, sym, subst}
+use Rattle.std.proofs.Common.{◌≢◌, ℕ, Bool, true, false, List, [], ◌∷◌, map, Option, Some, None, Ok, Err, slice_get, nat_eq, sym, subst}
 use Rattle.dfi_base.specs.declared.numbers.Line.{Line}
 use Rattle.c_ast.specs.declared.ident.Ident.{Ident}
 use Rattle.c_ast.specs.declared.decl.Base.{Base}
 use Rattle.c_ast.specs.declared.decl.TypeName.{TypeName}
 use Rattle.c_ast.specs.declared.expr.UnaryOp.{UnaryOp}
 use Rattle.c_ast.specs.declared.expr.Expr.{ind-Expr, Expr as SourceExpr}
-use Rattle.c_ast.specs.declared.expr.Form.{map-Form, roll-Form, Form as SourceForm}
+use Rattle.c_ast.specs.declared.expr.Form.{map-Form, Form as SourceForm}
 use Rattle.c_ast.specs.declared.expr.Form.TheOpen.{Form-F as Source}
-use Rattle.c_typed.specs.declared.fault.BigWhat.{BigWhat}
 use Rattle.c_typed.specs.declared.fault.TypeFault.{TypeFault}
 use Rattle.c_typed.specs.declared.types.ObjectType.{ObjectType}
 use Rattle.c_typed.specs.declared.expr.Expr.{Expr}

@@ -1,5 +1,5 @@
 -- The equations of the walk over a statement, one level at a time.
-use Rattle.std.proofs.Common.{◌≡◌, ℕ, suc, List, [], ◌∷◌, ◌++◌, map, length, Option, Some, None, Result, Ok, Err, refl, ap, sym, ◌∙◌}
+use Rattle.std.proofs.Common.{◌≡◌, ℕ, suc, List, [], ◌∷◌, ◌++◌, map, length, Option, Some, None, Ok, Err, refl, ap, sym, ◌∙◌}
 use Rattle.std.specs.Prelude.{nat_le, ◌&&◌}
 use Rattle.dfi_base.specs.declared.numbers.Line.{Line}
 use Rattle.c_ast.specs.declared.expr.Expr.{Expr as SourceExpr}
@@ -7,7 +7,7 @@ use Rattle.c_ast.specs.declared.stmt.Simple.{Simple}
 use Rattle.c_ast.specs.declared.stmt.ForStart.{ForStart}
 use Rattle.c_ast.specs.declared.stmt.Block.{Block}
 use Rattle.c_ast.specs.declared.stmt.BlockItem.{BlockItem}
-use Rattle.c_ast.specs.declared.stmt.Stmt.{fold-roll-Stmt, roll-Stmt, map-Stmt, Stmt as SourceStmt}
+use Rattle.c_ast.specs.declared.stmt.Stmt.{fold-roll-Stmt, roll-Stmt, Stmt as SourceStmt}
 use Rattle.c_ast.specs.declared.stmt.Stmt.TheOpen.{Stmt-F as Source}
 use Rattle.c_ast.specs.declared.stmt.Stmt.TheVariants as form
 use Rattle.c_typed.specs.declared.stmt.Stmt.{Stmt, roll-Stmt as roll}

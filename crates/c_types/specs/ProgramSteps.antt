@@ -1,5 +1,5 @@
 -- How what the program has declared changes from item to item. A tool of proof.
-use Rattle.std.specs.Prelude.{ℕ, ℤ, ◌+◌, Bool, false, nat_eq, List, [], ◌∷◌, ◌++◌, length, Option, Some, None}
+use Rattle.std.specs.Prelude.{ℕ, ℤ, ◌+◌, Bool, false, nat_eq, [], ◌∷◌, ◌++◌, length, Option, Some, None}
 use Rattle.c_ast.specs.declared.ident.Ident.{Ident}
 use Rattle.c_typed.specs.declared.types.ObjectType.{ObjectType}
 use Rattle.c_types.specs.declared.table.Table.{Table}

@@ -1,5 +1,5 @@
 -- What the code finds of the items of a program, and what is known behind them. A tool of proof.
-use Rattle.std.specs.Prelude.{ℕ, zero, suc, ℤ, neg_ℤ, ◌+◌, Bool, true, false, ◌&&◌, ◌||◌, not, nat_eq, nat_le, nat_lt, List, [], ◌∷◌, map, length, Option, Some, None, slice_get, is_some, Ok, Err}
+use Rattle.std.specs.Prelude.{ℕ, suc, ℤ, neg_ℤ, ◌+◌, Bool, true, false, ◌&&◌, ◌||◌, not, nat_eq, nat_le, nat_lt, List, [], ◌∷◌, map, length, Option, Some, None, slice_get, is_some, Ok}
 use Rattle.std.specs.List.{list_all}
 use Rattle.dfi_base.specs.declared.numbers.Line.{Line}
 use Rattle.c_ast.specs.declared.ident.Ident.{Ident}
@@ -195,10 +195,10 @@ have_structs o = list_all (λ t. has_struct o t.base)
 abbrev pub have_all : Outline → Option ObjectType → List ObjectType → Bool
 have_all o result types = have_structs o (types_in result types)
 
--- where a tag is of no struct, the types are not compared
+-- where a tag of the prototype is of no struct, the types are not compared
 abbrev pub agrees : Outline → Option ObjectType → List ObjectType → Signature → Bool
 agrees o result types s =
-    not (have_all o result types && have_all o s.result s.parameters) || (same_result result s.result && same_objects types s.parameters)
+    not (have_all o result types) || (same_result result s.result && same_objects types s.parameters)
 
 abbrev pub defined_at : Outline → Option ℕ → Option Signature
 defined_at o None = None

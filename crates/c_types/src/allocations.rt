@@ -1,9 +1,12 @@
 //! Calls of `malloc`.
 
-ghost use Rattle.std.specs.Prelude.{◌≡◌};
+ghost use Rattle.std.specs.Prelude.{◌≡◌, IfOk};
 ghost use Rattle.std.specs.Option.{option_copied};
 ghost use Rattle.c_types.specs.declared.outline.Outline.{Outline};
 ghost use Rattle.c_types.specs.declared.known.Known.{Known};
+ghost use Rattle.c_typed.specs.declared.types.ExprType.{ExprType};
+ghost use Rattle.c_typed.specs.declared.expr.Form.TheOpen.{Form-F};
+ghost use Rattle.c_typed.specs.Exprs.{made};
 ghost use Rattle.c_typed.specs.Faults as faults;
 ghost use Rattle.c_types.specs.Outlines.{means_malloc};
 ghost use Rattle.c_types.specs.ExprWalk as walk;
@@ -15,7 +18,7 @@ use c_ast::{BinaryOp, Expr as SourceExpr, Form as SourceForm, TypeName};
 use c_typed::{Expr, ExprType, Form, ObjectType, TypeFault};
 use dfi_base::Line;
 use sqlite_items::Boxed;
-use std::alloc::Global;
+use std::alloc::{AllocError, Global};
 
 /// The name that an expression is a call of.
 fn called(e: &SourceExpr) -> Option<u32>
@@ -70,23 +73,37 @@ pub fn allocated(
     alloc: Global,
     line: Line,
     item: ObjectType,
-    count: Option<Expr>,
+    count: Option<Boxed<Expr>>,
 ) -> Result<Expr, TypeFault>
     ensures { Finds result
         (kept faults.mismatch line (walk.allocated_by item count)) }
 {
-    let typing = ExprType::Pointer(item.copy(alloc)?);
-    let count = match count {
-        None => None,
-        Some(e) => {
-            if !matches!(e.typing, ExprType::Int) {
-                return Err(TypeFault::Mismatch { line });
-            }
-            Some(Boxed::new(alloc, e)?)
-        }
-    };
+    match count {
+        None => Ok(of_items(alloc, item, None)?),
+        Some(e) => counted(alloc, line, item, e),
+    }
+}
+
+/// A call of `malloc` for so many items.
+fn counted(
+    alloc: Global,
+    line: Line,
+    item: ObjectType,
+    count: Boxed<Expr>,
+) -> Result<Expr, TypeFault>
+    ensures { Finds result (kept faults.mismatch line (walk.new_by item count count.typing)) }
+{
+    if !matches!(count.get().typing, ExprType::Int) {
+        return Err(TypeFault::Mismatch { line });
+    }
+    Ok(of_items(alloc, item, Some(count))?)
+}
+
+fn of_items(alloc: Global, item: ObjectType, count: Option<Boxed<Expr>>) -> Result<Expr, AllocError>
+    ensures { IfOk result (λ e. e ≡ made (ExprType.Pointer item) (Form-F.New item count)) }
+{
     Ok(Expr {
-        typing,
+        typing: ExprType::Pointer(item.copy(alloc)?),
         form: Form::New { item, count },
     })
 }

@@ -9,6 +9,7 @@ use crate::known::{Around, Known};
 use crate::outline::Outline;
 use crate::stmts::{
     break_loop, condition, condition_there, continue_loop, empty, returned, simple, start, step,
+    unboxed,
 };
 use c_ast::{Block, BlockItem, Expr as SourceExpr, ForStart, Simple, Stmt as SourceStmt};
 use c_typed::{Branch, Condition, Stmt, TypeFault};
@@ -116,7 +117,7 @@ fn if_else(
     known: &mut Known,
     around: Around,
     line: Line,
-    condition: Condition,
+    condition: Boxed<Condition>,
     first: Boxed<Stmt>,
     second: &Option<Boxed<SourceStmt>>,
 ) -> Result<Stmt, TypeFault>
@@ -126,7 +127,7 @@ fn if_else(
     let second = otherwise(alloc, outline, known, around, second)?;
     Ok(Stmt::If {
         line,
-        condition,
+        condition: condition.into_inner(),
         first,
         second,
     })
@@ -152,7 +153,7 @@ fn while_loop(
     known.close()?;
     Ok(Stmt::While {
         line,
-        condition,
+        condition: condition.into_inner(),
         body,
     })
 }
@@ -182,7 +183,7 @@ fn for_loop(
     Ok(Stmt::For {
         line,
         start,
-        condition,
+        condition: unboxed(condition),
         step,
         body,
     })

@@ -8,6 +8,7 @@ ghost use Rattle.c_types.specs.Tables.{looked};
 ghost use Rattle.c_types.specs.ExprWalk as walk;
 ghost use Rattle.c_types.specs.Steps.{Finds, kept};
 
+use crate::held::refused;
 use crate::outline::{Outline, Signature};
 use c_ast::Ident;
 use c_typed::{Expr, ExprType, Form, ObjectType, TypeFault};
@@ -45,7 +46,12 @@ fn only(values: Items<Expr>) -> Option<Expr>
 {
     let mut values = values;
     let last = values.pop()?;
-    if values.is_empty() { Some(last) } else { None }
+    if values.is_empty() {
+        Some(last)
+    } else {
+        drop(last);
+        None
+    }
 }
 
 pub fn put_int(alloc: Global, line: Line, values: Items<Expr>) -> Result<Expr, TypeFault>
@@ -55,7 +61,7 @@ pub fn put_int(alloc: Global, line: Line, values: Items<Expr>) -> Result<Expr, T
         return Err(TypeFault::Mismatch { line });
     };
     if !matches!(e.typing, ExprType::Int) {
-        return Err(TypeFault::Mismatch { line });
+        return refused(e, TypeFault::Mismatch { line });
     }
     Ok(Expr {
         typing: ExprType::Void,
@@ -70,7 +76,7 @@ pub fn free(alloc: Global, line: Line, values: Items<Expr>) -> Result<Expr, Type
         return Err(TypeFault::Mismatch { line });
     };
     if !matches!(e.typing, ExprType::Pointer(_) | ExprType::Null) {
-        return Err(TypeFault::Mismatch { line });
+        return refused(e, TypeFault::Mismatch { line });
     }
     Ok(Expr {
         typing: ExprType::Void,

@@ -10,6 +10,7 @@ ghost use Rattle.c_typed.specs.declared.expr.Expr.{Expr};
 
 use crate::exprs;
 use crate::gather::push_some;
+use crate::held::refused;
 use crate::known::Known;
 use crate::outline::Outline;
 use crate::tags::{base, number};
@@ -144,8 +145,10 @@ fn valued_so(
     match value {
         Ok(v) => {
             let fits = object.takes(alloc, &v.typing);
-            declarator_rule(first, line, holds && fits, fault)?;
-            Ok(Some(assigned(line, object, variable, v)))
+            match declarator_rule(first, line, holds && fits, fault) {
+                Ok(()) => Ok(Some(assigned(line, object, variable, v))),
+                Err(fault) => refused(v, fault),
+            }
         }
         Err(TypeFault::Memory) => Err(TypeFault::Memory),
         Err(e) => {

@@ -12,7 +12,7 @@ use crate::{allocations, calls, members, nodes, rules};
 use c_ast::{Expr as SourceExpr, Form as SourceForm, Ident, TypeName, UnaryOp};
 use c_typed::{Expr, PrefixOp, TypeFault};
 use dfi_base::Line;
-use sqlite_items::Items;
+use sqlite_items::{Boxed, Items};
 use std::alloc::Global;
 
 /// An expression as it stands.
@@ -28,12 +28,12 @@ fn plain(alloc: Global, outline: &Outline, known: &Known, e: &SourceExpr) -> Res
             unary(alloc, outline, known, e.line, *op, operand.get())
         }
         SourceForm::Binary { left, op, right } => {
-            let left = value(alloc, outline, known, left.get())?;
+            let left = operand(alloc, outline, known, left.get())?;
             let right = value(alloc, outline, known, right.get())?;
             rules::binary(alloc, e.line, *op, left, right)
         }
         SourceForm::Index { array, index } => {
-            let pointer = value(alloc, outline, known, array.get())?;
+            let pointer = operand(alloc, outline, known, array.get())?;
             let index = value(alloc, outline, known, index.get())?;
             rules::item_at(alloc, e.line, pointer, index)
         }
@@ -257,7 +257,7 @@ fn count_first(
     ensures { Finds result
         (count_first outline.now known.now line (expr_walk outline.now known.now e.now) t.now) }
 {
-    let count = value(alloc, outline, known, e)?;
+    let count = operand(alloc, outline, known, e)?;
     let item = type_name(alloc, outline, known, t)?;
     allocations::allocated(alloc, line, item, Some(count))
 }
@@ -276,7 +276,7 @@ fn type_first(
         (type_first outline.now known.now line t.now (expr_walk outline.now known.now e.now)) }
 {
     let item = type_name(alloc, outline, known, t)?;
-    let count = value(alloc, outline, known, e)?;
+    let count = operand(alloc, outline, known, e)?;
     allocations::allocated(alloc, line, item, Some(count))
 }
 
@@ -292,6 +292,19 @@ pub fn value(
 {
     let whole = plain(alloc, outline, known, e)?;
     rules::value(alloc, e.line, whole)
+}
+
+/// The value of an operand, in the box in which it stands.
+#[cycle(exprs)]
+fn operand(
+    alloc: Global,
+    outline: &Outline,
+    known: &Known,
+    e: &SourceExpr,
+) -> Result<Boxed<Expr>, TypeFault>
+    ensures { Finds result (value (expr_walk outline.now known.now e.now)) }
+{
+    Ok(Boxed::new(alloc, value(alloc, outline, known, e)?)?)
 }
 
 /// An expression that must be a place.

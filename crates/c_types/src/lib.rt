@@ -10,6 +10,7 @@ mod exprs;
 mod functions;
 mod gather;
 mod globals;
+mod held;
 mod known;
 mod members;
 mod names;

@@ -6,12 +6,13 @@ ghost use Rattle.c_typed.specs.Exprs as defined;
 ghost use Rattle.c_types.specs.ExprWalk as walk;
 ghost use Rattle.c_types.specs.Steps.{Finds};
 
+use crate::held::refused;
+use crate::nodes;
 use crate::outline::{Member, Outline};
 use crate::tags::number;
 use c_ast::Ident;
-use c_typed::{BaseType, Expr, ExprType, Form, ObjectType, TypeFault};
+use c_typed::{BaseType, Expr, ExprType, ObjectType, TypeFault};
 use dfi_base::Line;
-use sqlite_items::Boxed;
 use std::alloc::Global;
 
 fn struct_of(t: &ObjectType) -> Option<u32>
@@ -68,19 +69,15 @@ pub fn member_of(
         (walk.fielded outline.now line field Form-F.Field whole (defined.struct_at whole.typing)) }
 {
     let ExprType::Place(object) = &whole.typing else {
-        return Err(TypeFault::Mismatch { line });
+        return refused(whole, TypeFault::Mismatch { line });
     };
     let Some(k) = struct_of(object) else {
-        return Err(TypeFault::Mismatch { line });
+        return refused(whole, TypeFault::Mismatch { line });
     };
-    let (field, object) = member(alloc, outline, k, field)?;
-    Ok(Expr {
-        typing: ExprType::Place(object),
-        form: Form::Field {
-            whole: Boxed::new(alloc, whole)?,
-            field,
-        },
-    })
+    match member(alloc, outline, k, field) {
+        Ok((field, object)) => Ok(nodes::field(alloc, object, whole, field)?),
+        Err(fault) => refused(whole, fault),
+    }
 }
 
 /// A field of the struct that a pointer points to.
@@ -96,17 +93,13 @@ pub fn member_behind(
         (defined.struct_behind pointer.typing)) }
 {
     let ExprType::Pointer(object) = &pointer.typing else {
-        return Err(TypeFault::Mismatch { line });
+        return refused(pointer, TypeFault::Mismatch { line });
     };
     let Some(k) = struct_of(object) else {
-        return Err(TypeFault::Mismatch { line });
+        return refused(pointer, TypeFault::Mismatch { line });
     };
-    let (field, object) = member(alloc, outline, k, field)?;
-    Ok(Expr {
-        typing: ExprType::Place(object),
-        form: Form::Arrow {
-            pointer: Boxed::new(alloc, pointer)?,
-            field,
-        },
-    })
+    match member(alloc, outline, k, field) {
+        Ok((field, object)) => Ok(nodes::arrow(alloc, object, pointer, field)?),
+        Err(fault) => refused(pointer, fault),
+    }
 }

@@ -83,12 +83,11 @@ pub fn prefix(alloc: Global, op: PrefixOp, operand: Expr) -> Result<Expr, AllocE
 pub fn index(
     alloc: Global,
     object: ObjectType,
-    pointer: Expr,
+    pointer: Boxed<Expr>,
     index: Expr,
 ) -> Result<Expr, AllocError>
     ensures { IfOk result (λ e. e ≡ made (ExprType.Place object) (Form-F.Index pointer index)) }
 {
-    let pointer = Boxed::new(alloc, pointer)?;
     let index = Boxed::new(alloc, index)?;
     Ok(Expr {
         typing: ExprType::Place(object),
@@ -99,13 +98,12 @@ pub fn index(
 pub fn binary(
     alloc: Global,
     typing: ExprType,
-    left: Expr,
+    left: Boxed<Expr>,
     op: BinaryOp,
     right: Expr,
 ) -> Result<Expr, AllocError>
     ensures { IfOk result (λ e. e ≡ made typing (Form-F.Binary left op right)) }
 {
-    let left = Boxed::new(alloc, left)?;
     let right = Boxed::new(alloc, right)?;
     Ok(Expr {
         typing,
@@ -113,15 +111,47 @@ pub fn binary(
     })
 }
 
+/// A field of a struct.
+pub fn field(alloc: Global, object: ObjectType, whole: Expr, field: u32) -> Result<Expr, AllocError>
+    ensures { IfOk result (λ e. e ≡ made (ExprType.Place object) (Form-F.Field whole field)) }
+{
+    Ok(Expr {
+        typing: ExprType::Place(object),
+        form: Form::Field {
+            whole: Boxed::new(alloc, whole)?,
+            field,
+        },
+    })
+}
+
+/// A field of the struct that a pointer points to.
+pub fn arrow(
+    alloc: Global,
+    object: ObjectType,
+    pointer: Expr,
+    field: u32,
+) -> Result<Expr, AllocError>
+    ensures { IfOk result (λ e. e ≡ made (ExprType.Place object) (Form-F.Arrow pointer field)) }
+{
+    Ok(Expr {
+        typing: ExprType::Place(object),
+        form: Form::Arrow {
+            pointer: Boxed::new(alloc, pointer)?,
+            field,
+        },
+    })
+}
+
 pub fn variable(alloc: Global, binding: &Binding) -> Result<Expr, AllocError>
     ensures { IfOk result (λ e. e ≡ variable_node binding.now) }
 {
+    let object = binding.object.copy(alloc)?;
     let form = match binding.home {
         Home::Global => Form::Global(binding.number),
         Home::Local => Form::Local(binding.number),
     };
     Ok(Expr {
-        typing: ExprType::Place(binding.object.copy(alloc)?),
+        typing: ExprType::Place(object),
         form,
     })
 }

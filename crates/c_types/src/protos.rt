@@ -105,14 +105,12 @@ impl Outline {
         }
     }
 
-    /// Whether a prototype's types are those of its function; where a tag is of no struct, they are not compared.
+    /// Whether a prototype's types are those of its function; where it has a tag of no struct, they are not compared.
     fn agrees(&self, t: &Option<ObjectType>, types: &[ObjectType], s: &Signature) -> bool
         ensures { result ≡ walk.agrees self.now t.now types.now s.now }
     {
-        if !self.have_all(t, types) || !self.have_all(&s.result, s.parameters.as_slice()) {
-            return true;
-        }
-        same_result(t, &s.result) && same_objects(types, s.parameters.as_slice())
+        !self.have_all(t, types)
+            || (same_result(t, &s.result) && same_objects(types, s.parameters.as_slice()))
     }
 
     /// The function of this name.

@@ -6,11 +6,13 @@ ghost use Rattle.c_typed.specs.Exprs as defined;
 ghost use Rattle.c_types.specs.ExprWalk.{cast};
 ghost use Rattle.c_types.specs.Steps.{Finds, kept};
 
+use crate::held::refused;
 use crate::nodes;
 use crate::operators::binary_type;
 use c_ast::BinaryOp;
 use c_typed::{Expr, ExprType, ObjectType, PrefixOp, TypeFault};
 use dfi_base::Line;
+use sqlite_items::Boxed;
 use std::alloc::{AllocError, Global};
 
 /// The value of an expression.
@@ -21,13 +23,11 @@ pub fn value(alloc: Global, line: Line, e: Expr) -> Result<Expr, TypeFault>
         return Ok(e);
     };
     let is_array = !object.lengths.is_empty();
-    let Some(typing) = object.value(alloc)? else {
-        return Err(TypeFault::Mismatch { line });
-    };
-    if is_array {
-        Ok(nodes::decay(alloc, typing, e)?)
-    } else {
-        Ok(nodes::read(alloc, typing, e)?)
+    match object.value(alloc) {
+        Ok(Some(typing)) if is_array => Ok(nodes::decay(alloc, typing, e)?),
+        Ok(Some(typing)) => Ok(nodes::read(alloc, typing, e)?),
+        Ok(None) => refused(e, TypeFault::Mismatch { line }),
+        Err(_) => refused(e, TypeFault::Memory),
     }
 }
 
@@ -38,7 +38,7 @@ pub fn place(line: Line, e: Expr) -> Result<Expr, TypeFault>
     if matches!(e.typing, ExprType::Place(_)) {
         Ok(e)
     } else {
-        Err(TypeFault::NotLvalue { line })
+        refused(e, TypeFault::NotLvalue { line })
     }
 }
 
@@ -49,7 +49,7 @@ pub fn plus(line: Line, e: Expr) -> Result<Expr, TypeFault>
     if matches!(e.typing, ExprType::Int) {
         Ok(e)
     } else {
-        Err(TypeFault::Mismatch { line })
+        refused(e, TypeFault::Mismatch { line })
     }
 }
 
@@ -60,7 +60,7 @@ pub fn int_prefix(alloc: Global, line: Line, op: PrefixOp, e: Expr) -> Result<Ex
     if matches!(e.typing, ExprType::Int) {
         Ok(nodes::prefix(alloc, op, e)?)
     } else {
-        Err(TypeFault::Mismatch { line })
+        refused(e, TypeFault::Mismatch { line })
     }
 }
 
@@ -71,7 +71,7 @@ pub fn negation(alloc: Global, line: Line, e: Expr) -> Result<Expr, TypeFault>
     if e.typing.is_truth() {
         Ok(nodes::prefix(alloc, PrefixOp::Not, e)?)
     } else {
-        Err(TypeFault::Mismatch { line })
+        refused(e, TypeFault::Mismatch { line })
     }
 }
 
@@ -80,10 +80,12 @@ pub fn pointed_at(alloc: Global, line: Line, e: Expr) -> Result<Expr, TypeFault>
     ensures { Finds result (kept faults.mismatch line (defined.pointed_at e e.typing)) }
 {
     let ExprType::Pointer(object) = &e.typing else {
-        return Err(TypeFault::Mismatch { line });
+        return refused(e, TypeFault::Mismatch { line });
     };
-    let object = object.copy(alloc)?;
-    Ok(nodes::deref(alloc, object, e)?)
+    match object.copy(alloc) {
+        Ok(object) => Ok(nodes::deref(alloc, object, e)?),
+        Err(_) => refused(e, TypeFault::Memory),
+    }
 }
 
 /// `&e`
@@ -91,27 +93,36 @@ pub fn address(alloc: Global, line: Line, e: Expr) -> Result<Expr, TypeFault>
     ensures { Finds result (kept faults.mismatch line (defined.address e e.typing)) }
 {
     let ExprType::Place(object) = &e.typing else {
-        return Err(TypeFault::Mismatch { line });
+        return refused(e, TypeFault::Mismatch { line });
     };
     if !object.lengths.is_empty() {
-        return Err(TypeFault::Mismatch { line });
+        return refused(e, TypeFault::Mismatch { line });
     }
-    let object = object.copy(alloc)?;
-    Ok(nodes::address(alloc, object, e)?)
+    match object.copy(alloc) {
+        Ok(object) => Ok(nodes::address(alloc, object, e)?),
+        Err(_) => refused(e, TypeFault::Memory),
+    }
 }
 
 /// `e[i]`
-pub fn item_at(alloc: Global, line: Line, pointer: Expr, index: Expr) -> Result<Expr, TypeFault>
+pub fn item_at(
+    alloc: Global,
+    line: Line,
+    pointer: Boxed<Expr>,
+    index: Expr,
+) -> Result<Expr, TypeFault>
     ensures { Finds result (kept faults.mismatch line (defined.item_at pointer index pointer.typing index.typing)) }
 {
-    let ExprType::Pointer(object) = &pointer.typing else {
-        return Err(TypeFault::Mismatch { line });
+    let ExprType::Pointer(object) = &pointer.get().typing else {
+        return refused((pointer, index), TypeFault::Mismatch { line });
     };
     if !matches!(index.typing, ExprType::Int) {
-        return Err(TypeFault::Mismatch { line });
+        return refused((pointer, index), TypeFault::Mismatch { line });
     }
-    let object = object.copy(alloc)?;
-    Ok(nodes::index(alloc, object, pointer, index)?)
+    match object.copy(alloc) {
+        Ok(object) => Ok(nodes::index(alloc, object, pointer, index)?),
+        Err(_) => refused((pointer, index), TypeFault::Memory),
+    }
 }
 
 /// An operator between two operands.
@@ -119,15 +130,16 @@ pub fn binary(
     alloc: Global,
     line: Line,
     op: BinaryOp,
-    left: Expr,
+    left: Boxed<Expr>,
     right: Expr,
 ) -> Result<Expr, TypeFault>
     ensures { Finds result (kept faults.mismatch line (defined.binary op left right)) }
 {
-    let Some(typing) = binary_type(alloc, op, &left.typing, &right.typing)? else {
-        return Err(TypeFault::Mismatch { line });
-    };
-    Ok(nodes::binary(alloc, typing, left, op, right)?)
+    match binary_type(alloc, op, &left.get().typing, &right.typing) {
+        Ok(Some(typing)) => Ok(nodes::binary(alloc, typing, left, op, right)?),
+        Ok(None) => refused((left, right), TypeFault::Mismatch { line }),
+        Err(_) => refused((left, right), TypeFault::Memory),
+    }
 }
 
 /// A cast, which only stands before a call of `malloc`.
@@ -143,6 +155,6 @@ pub fn cast(
     if allocates && object.takes(alloc, &e.typing) {
         Ok(e)
     } else {
-        Err(TypeFault::Mismatch { line })
+        refused(e, TypeFault::Mismatch { line })
     }
 }

@@ -6,6 +6,7 @@ ghost use Rattle.c_typed.specs.Faults as faults;
 ghost use Rattle.c_typed.specs.Stmts as defined;
 ghost use Rattle.c_types.specs.Steps.{Finds, kept};
 
+use crate::held::refused;
 use c_ast::AssignOp;
 use c_typed::{Condition, Expr, ExprType, ObjectType, Stmt, TypeFault};
 use dfi_base::Line;
@@ -16,7 +17,7 @@ pub fn tested(line: Line, e: Expr) -> Result<Condition, TypeFault>
     ensures { Finds result (kept faults.mismatch line (defined.tested line e)) }
 {
     if !e.typing.is_truth() {
-        return Err(TypeFault::Mismatch { line });
+        return refused(e, TypeFault::Mismatch { line });
     }
     Ok(Condition { line, value: e })
 }
@@ -66,10 +67,10 @@ pub fn assigned(
     ensures { Finds result (kept faults.mismatch line (defined.assigned line op target value)) }
 {
     let Some(scalar) = scalar_at(alloc, &target.typing) else {
-        return Err(TypeFault::Mismatch { line });
+        return refused((target, value), TypeFault::Mismatch { line });
     };
     if !assigns(op, &scalar, &value.typing) {
-        return Err(TypeFault::Mismatch { line });
+        return refused((target, value), TypeFault::Mismatch { line });
     }
     Ok(Stmt::Assign {
         line,
@@ -85,7 +86,7 @@ pub fn incremented(alloc: Global, line: Line, target: Expr) -> Result<Stmt, Type
         (kept faults.mismatch line (defined.counted target (Stmt-F.Increment line target))) }
 {
     match scalar_at(alloc, &target.typing) {
-        None => Err(TypeFault::Mismatch { line }),
+        None => refused(target, TypeFault::Mismatch { line }),
         Some(_) => Ok(Stmt::Increment { line, target }),
     }
 }
@@ -96,7 +97,7 @@ pub fn decremented(alloc: Global, line: Line, target: Expr) -> Result<Stmt, Type
         (kept faults.mismatch line (defined.counted target (Stmt-F.Decrement line target))) }
 {
     match scalar_at(alloc, &target.typing) {
-        None => Err(TypeFault::Mismatch { line }),
+        None => refused(target, TypeFault::Mismatch { line }),
         Some(_) => Ok(Stmt::Decrement { line, target }),
     }
 }
@@ -116,7 +117,7 @@ pub fn returned(
         _ => false,
     };
     if !fits {
-        return Err(TypeFault::Mismatch { line });
+        return refused(value, TypeFault::Mismatch { line });
     }
     Ok(Stmt::Return { line, value })
 }

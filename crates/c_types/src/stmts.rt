@@ -7,17 +7,18 @@ ghost use Rattle.c_types.specs.Steps.{Finds, Leaves};
 ghost use Rattle.c_types.specs.StmtWalk as walk;
 
 use crate::decls::local_decl;
+use crate::held::refused;
 use crate::known::{Around, Known};
 use crate::outline::Outline;
 use crate::{exprs, sentences};
-use c_ast::{Expr as SourceExpr, ForStart, Simple};
+use c_ast::{AssignOp, Expr as SourceExpr, ForStart, Simple};
 use c_typed::{Condition, Expr, Stmt, TypeFault};
 use dfi_base::Line;
 use sqlite_items::{Boxed, Items};
 use std::alloc::Global;
 
-/// A condition, an `int` or a pointer.
-pub fn condition(
+/// A condition, an `int` or a pointer, before it is boxed.
+fn test(
     alloc: Global,
     outline: &Outline,
     known: &Known,
@@ -29,17 +30,58 @@ pub fn condition(
     sentences::tested(e.line, value)
 }
 
+/// A condition.
+pub fn condition(
+    alloc: Global,
+    outline: &Outline,
+    known: &Known,
+    e: &SourceExpr,
+) -> Result<Boxed<Condition>, TypeFault>
+    ensures { Finds result (walk.condition_walk outline.now known.now e.now) }
+{
+    Ok(Boxed::new(alloc, test(alloc, outline, known, e)?)?)
+}
+
 pub fn condition_there(
     alloc: Global,
     outline: &Outline,
     known: &Known,
     e: &Option<SourceExpr>,
-) -> Result<Option<Condition>, TypeFault>
+) -> Result<Option<Boxed<Condition>>, TypeFault>
     ensures { Finds result (walk.condition_there_walk outline.now known.now e.now) }
 {
     match e {
         None => Ok(None),
         Some(e) => Ok(Some(condition(alloc, outline, known, e)?)),
+    }
+}
+
+/// The condition, out of its box.
+pub fn unboxed(condition: Option<Boxed<Condition>>) -> Option<Condition>
+    ensures { result ≡ condition }
+{
+    match condition {
+        None => None,
+        Some(condition) => Some(condition.into_inner()),
+    }
+}
+
+fn assignment(
+    alloc: Global,
+    outline: &Outline,
+    known: &Known,
+    line: Line,
+    target: &SourceExpr,
+    op: AssignOp,
+    value: &SourceExpr,
+) -> Result<Stmt, TypeFault>
+    ensures { Finds result
+        (walk.assign_walk outline.now known.now line target.now op value.now) }
+{
+    let target = exprs::place(alloc, outline, known, target)?;
+    match exprs::value(alloc, outline, known, value) {
+        Ok(value) => sentences::assigned(alloc, line, op, target, value),
+        Err(fault) => refused(target, fault),
     }
 }
 
@@ -58,11 +100,7 @@ pub fn simple(
             target,
             op,
             value,
-        } => {
-            let target = exprs::place(alloc, outline, known, target)?;
-            let value = exprs::value(alloc, outline, known, value)?;
-            sentences::assigned(alloc, *line, *op, target, value)
-        }
+        } => assignment(alloc, outline, known, *line, target, *op, value),
         Simple::Increment { line, target } | Simple::PreIncrement { line, target } => {
             let target = exprs::place(alloc, outline, known, target)?;
             sentences::incremented(alloc, *line, target)
@@ -113,7 +151,7 @@ pub fn returned(
         Ok(value) => {
             let s = sentences::returned(alloc, line, &known.frame.result, value)?;
             if in_branch {
-                Err(TypeFault::Escape { line })
+                refused(s, TypeFault::Escape { line })
             } else {
                 Ok(s)
             }

@@ -1,14 +1,14 @@
 -- A test of modules: what passes it can run.
-use Rattle.std.proofs.Common.{◌≡◌, ℕ, zero, suc, ◌+◌, ◌≤◌, ◌<◌, List, [], ◌∷◌, length, get_or, Bool, true, false, refl, Option, Some, None, Ok, Err, IfOk, arith, sym, ◌∙◌, ap, subst}
+use Rattle.std.proofs.Common.{◌≡◌, ℕ, zero, suc, ◌≤◌, ◌<◌, List, [], ◌∷◌, length, get_or, Bool, true, false, refl, Some, None, Ok, Err, IfOk, arith, sym, ◌∙◌, ap, subst}
 use Rattle.std.specs.Prelude.{nat_le, nat_lt, nat_eq, not, ◌&&◌, ◌||◌, ◌==◌, slice_get, All, Result}
-use Rattle.std.specs.List.{list_all, list_any, range_with_len}
+use Rattle.std.specs.List.{list_all}
 use Rattle.std.specs.declared.alloc.AllocError.{AllocError}
 use Rattle.std.proofs.lemmas.Bool.{eqb-true, eq-eqb, leb-true}
 use Rattle.tac_ir.specs.Module.{Module}
 use Rattle.tac_ir.specs.Numbers.{defs_in_code}
 use Rattle.tac_ir.specs.Answers.{has, set_of, class_of}
 use Rattle.tac_ir.proofs.FormTest.{form_test, form_good}
-use Rattle.word_table.specs.Tables.{IsNumberOf, HasGoodTables, AreSeparate, CanRun}
+use Rattle.word_table.specs.Tables.{IsNumberOf, CanRun}
 use Rattle.word_table.specs.Classes.{is_class_in}
 
 left_of : (a b : Bool) → (a && b) ≡ true → a ≡ true

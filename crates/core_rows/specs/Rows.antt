@@ -1,12 +1,10 @@
 -- Modules that are given by rows.
-use Rattle.std.specs.Prelude.{ℕ, ℤ, Bool, true, false, List, [], ◌∷◌, map, replicate, length, nat_lt, nat_eq, Some, None, pos, if◌then◌else◌}
-use Rattle.tac_ir.specs.declared.code.Code.{Code}
+use Rattle.std.specs.Prelude.{ℕ, false, List, [], ◌∷◌, map, replicate, length, nat_lt, nat_eq, Some, None, if◌then◌else◌}
 use Rattle.tac_ir.specs.declared.code.Shape.{Shape}
 use Rattle.tac_ir.specs.declared.code.Fun.{Fun}
 use Rattle.tac_ir.specs.declared.code.Lined.{Lined}
 use Rattle.tac_ir.specs.declared.code.Place.{Place}
 use Rattle.tac_ir.specs.declared.code.Instr.{Instr}
-use Rattle.tac_ir.specs.declared.module.Size.{Size}
 use Rattle.tac_ir.specs.Module.{Module}
 use Rattle.core_rows.specs.declared.row.Spot.{Spot}
 use Rattle.core_rows.specs.declared.row.Row.{Row}
@@ -64,7 +62,7 @@ set_of members =
 -- a module in which each read is checked
 abbrev pub module_of : Sample → Module
 module_of s = record {
-  size = Size.Small;
+  size = s.size;
   code = record { shapes = shapes_of s.arrays.now; globals = s.globals.now; sites = s.sites.now; main = s.main; funs = map fun_of s.funs.now };
   classes = s.classes.now;
   sets = map set_of s.sets.now;

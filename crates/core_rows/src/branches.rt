@@ -4,7 +4,7 @@ ghost use Rattle.word_table.specs.Tables.{CanRun};
 use crate::build::{Function, Sample, module_of};
 use crate::row::{Row, Spot};
 use std::alloc::{AllocError, Global};
-use tac_ir::{BinOp, Global as Variable, Module};
+use tac_ir::{BinOp, Global as Variable, Module, Size};
 
 const INT: Variable = Variable {
     shape: 0,
@@ -30,6 +30,7 @@ const BRANCHING_MAIN: [Row; 13] = [
 
 /// `int x; int y; int main() { x = 1; par { { x = 2; } { y = x; } } putint(y); }`
 const BRANCHING: Sample<'static> = Sample {
+    size: Size::Small,
     arrays: &[],
     globals: &[INT, INT],
     sites: &[],
@@ -62,6 +63,7 @@ const DEEPENING_AGAIN: [Row; 6] = [
 
 /// A function that forks into a call of itself and a branch that ends at once.
 const DEEPENING: Sample<'static> = Sample {
+    size: Size::Small,
     arrays: &[],
     globals: &[],
     sites: &[],
@@ -138,6 +140,7 @@ const SHARING_MAIN: [Row; 4] = [
 
 /// `int main() { int a[4095]; f(5); }`
 const SHARING: Sample<'static> = Sample {
+    size: Size::Small,
     arrays: &[4081, 4094, 4095],
     globals: &[],
     sites: &[],

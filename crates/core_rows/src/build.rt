@@ -14,11 +14,12 @@ pub struct Function<'a> {
     pub rows: &'a [Row],
 }
 
-/// A module of a test: the lengths of its arrays, whose shapes are numbered from 2, its globals and functions, the number of
+/// A module of a test: the size of its memory, the lengths of its arrays, whose shapes are numbered from 2, its globals and functions, the number of
 /// `main`, the class of each definition, and the least and the greatest member of each read's set, which has no others. Both are 0
 /// where it has none.
 #[derive(Clone, Copy)]
 pub struct Sample<'a> {
+    pub size: Size,
     pub arrays: &'a [u32],
     pub globals: &'a [Variable],
     pub sites: &'a [Site],
@@ -111,7 +112,7 @@ pub fn module_of(alloc: Global, sample: &Sample<'_>) -> Result<Module, AllocErro
     let sets = sets_of(alloc, sample.sets)?;
     let removed = checked(alloc, sample.sets.len())?;
     Ok(Module {
-        size: Size::Small,
+        size: sample.size,
         code,
         classes: Classes {
             list: Items::from_slice(alloc, sample.classes)?,

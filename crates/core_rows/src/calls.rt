@@ -4,7 +4,7 @@ ghost use Rattle.word_table.specs.Tables.{CanRun};
 use crate::build::{Function, Sample, module_of};
 use crate::row::{Row, Spot};
 use std::alloc::{AllocError, Global};
-use tac_ir::{BinOp, Global as Variable, Module};
+use tac_ir::{BinOp, Global as Variable, Module, Size};
 
 const INT: Variable = Variable {
     shape: 0,
@@ -14,6 +14,7 @@ const INT: Variable = Variable {
 
 /// `int main() { while (1) { } }`, without its test
 const LOOPING: Sample<'static> = Sample {
+    size: Size::Small,
     arrays: &[],
     globals: &[],
     sites: &[],
@@ -44,6 +45,7 @@ const WORKING_MAIN: [Row; 6] = [
 
 /// `int x; int main() { while (1) { x = x + 1; } }`, without its test
 const WORKING: Sample<'static> = Sample {
+    size: Size::Small,
     arrays: &[],
     globals: &[INT],
     sites: &[],
@@ -69,6 +71,7 @@ const ENDLESS_AGAIN: [Row; 3] = [Row::Call(0, 1, 2), Row::Const(1, 0), Row::Ret(
 
 /// A function that calls itself without end.
 const ENDLESS: Sample<'static> = Sample {
+    size: Size::Small,
     arrays: &[],
     globals: &[],
     sites: &[],
@@ -93,6 +96,35 @@ pub fn endless(alloc: Global) -> Result<Module, AllocError>
     ensures { IfOk result CanRun }
 {
     module_of(alloc, &ENDLESS)
+}
+
+/// The same in the large memory.
+const ENDLESS_LARGE: Sample<'static> = Sample {
+    size: Size::Large,
+    arrays: &[],
+    globals: &[],
+    sites: &[],
+    main: 0,
+    funs: &[
+        Function {
+            params: 0,
+            vars: &[],
+            rows: &ENDLESS_MAIN,
+        },
+        Function {
+            params: 0,
+            vars: &[],
+            rows: &ENDLESS_AGAIN,
+        },
+    ],
+    classes: &[1, 1],
+    sets: &[(1, 2)],
+};
+
+pub fn endless_large(alloc: Global) -> Result<Module, AllocError>
+    ensures { IfOk result CanRun }
+{
+    module_of(alloc, &ENDLESS_LARGE)
 }
 
 // `int f(int *p) { p[2] = 7; return 0; }`
@@ -123,6 +155,7 @@ const OVERRUN_MAIN: [Row; 9] = [
 
 /// `int main() { int a[2]; int x; x = 3; f(a); putint(x); }`
 const OVERRUN: Sample<'static> = Sample {
+    size: Size::Small,
     arrays: &[2],
     globals: &[],
     sites: &[],
@@ -175,6 +208,7 @@ const DIVERTED_MAIN: [Row; 7] = [
 
 /// `int main() { int a[2]; f(a); putint(4); }`
 const DIVERTED: Sample<'static> = Sample {
+    size: Size::Small,
     arrays: &[2],
     globals: &[],
     sites: &[],

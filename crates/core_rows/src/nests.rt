@@ -4,7 +4,7 @@ ghost use Rattle.word_table.specs.Tables.{CanRun};
 use crate::build::{Function, Sample, module_of};
 use crate::row::Row;
 use std::alloc::{AllocError, Global};
-use tac_ir::Module;
+use tac_ir::{Module, Size};
 
 const FOURTEEN_DEEP: [Row; 44] = [
     Row::Fork(42, 1, 41),
@@ -55,6 +55,7 @@ const FOURTEEN_DEEP: [Row; 44] = [
 
 /// `par` blocks with an empty branch beside each, fourteen deep.
 const FOURTEEN: Sample<'static> = Sample {
+    size: Size::Small,
     arrays: &[],
     globals: &[],
     sites: &[],
@@ -126,6 +127,7 @@ const FIFTEEN_DEEP: [Row; 47] = [
 
 /// `par` blocks with an empty branch beside each, fifteen deep.
 const FIFTEEN: Sample<'static> = Sample {
+    size: Size::Small,
     arrays: &[],
     globals: &[],
     sites: &[],

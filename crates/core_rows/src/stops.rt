@@ -4,7 +4,7 @@ ghost use Rattle.word_table.specs.Tables.{CanRun};
 use crate::build::{Function, Sample, module_of};
 use crate::row::{Row, Spot};
 use std::alloc::{AllocError, Global};
-use tac_ir::{BinOp, Global as Variable, Module};
+use tac_ir::{BinOp, Global as Variable, Module, Size};
 
 const INT: Variable = Variable {
     shape: 0,
@@ -35,6 +35,7 @@ const NEIGHBOUR_MAIN: [Row; 12] = [
 
 /// `int a[4]; int x; int main() { x = 3; a[4] = 9; putint(x); }`
 const NEIGHBOUR: Sample<'static> = Sample {
+    size: Size::Small,
     arrays: &[4],
     globals: &[ARRAY, INT],
     sites: &[],
@@ -67,6 +68,7 @@ const WILD_MAIN: [Row; 8] = [
 
 /// `int a[1]; int main() { a[70000] = 1; }`
 const WILD: Sample<'static> = Sample {
+    size: Size::Small,
     arrays: &[1],
     globals: &[ARRAY],
     sites: &[],
@@ -95,6 +97,7 @@ const FREEING_MAIN: [Row; 4] = [
 
 /// `int x; int main() { free(&x); }`
 const FREEING: Sample<'static> = Sample {
+    size: Size::Small,
     arrays: &[],
     globals: &[INT],
     sites: &[],
@@ -137,6 +140,7 @@ const DIVIDING_MAIN: [Row; 18] = [
 
 /// `m` is the least `int`: `putint(m / -1); putint(m % -1); putint(1 / (m - m));`
 const DIVIDING: Sample<'static> = Sample {
+    size: Size::Small,
     arrays: &[],
     globals: &[],
     sites: &[],

@@ -4,7 +4,7 @@ ghost use Rattle.word_table.specs.Tables.{CanRun};
 use crate::build::{Function, Sample, module_of};
 use crate::row::{Row, Spot};
 use std::alloc::{AllocError, Global};
-use tac_ir::{Module, Site};
+use tac_ir::{Module, Site, Size};
 
 const UNSET_MAIN: [Row; 4] = [
     Row::Get(0, Spot::Local(0), 1),
@@ -15,6 +15,7 @@ const UNSET_MAIN: [Row; 4] = [
 
 /// `int main() { int x; putint(x); }`
 const UNSET: Sample<'static> = Sample {
+    size: Size::Small,
     arrays: &[],
     globals: &[],
     sites: &[],
@@ -52,6 +53,7 @@ const REUSING_MAIN: [Row; 11] = [
 
 /// A block of one `int` is written and freed, and the next block is read before it is written.
 const REUSING: Sample<'static> = Sample {
+    size: Size::Small,
     arrays: &[],
     globals: &[],
     sites: &[INT],
@@ -84,6 +86,7 @@ const READING_MAIN: [Row; 8] = [
 
 /// Puts out a number of the input, how many are left, and the next one.
 const READING: Sample<'static> = Sample {
+    size: Size::Small,
     arrays: &[],
     globals: &[],
     sites: &[],

@@ -1,10 +1,10 @@
 -- From a stage of a call to the stage before it.
-use Rattle.std.proofs.Common.{◌≡◌, ℕ, Option, Result, Ok, Err, List, [], ◌∷◌, IfOk}
+use Rattle.std.proofs.Common.{ℕ, Option, Result, Ok, Err, List, [], ◌∷◌, IfOk}
 use Rattle.dfi_base.specs.declared.memory.Memory.{Memory}
 use Rattle.dfi_io.specs.Files.{Files}
 use Rattle.dfi_top.specs.Loads.{Load, AreLoads}
 use Rattle.dfi_top.specs.Reply.{Said}
-use Rattle.dfi_top.specs.Stages.{Went, Goes}
+use Rattle.dfi_top.specs.Stages.{Goes}
 use Rattle.dfi_top.proofs.ManyLoads.{more}
 
 -- a stage behind one load

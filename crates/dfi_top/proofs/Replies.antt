@@ -15,8 +15,8 @@ use Rattle.tac_ir.specs.Module.{Module}
 use Rattle.dfi_top.specs.declared.reply.Reply.{Reply}
 use Rattle.dfi_top.specs.declared.stages.Replay.{Replay}
 use Rattle.dfi_top.specs.Course.{MayLoad, MayLoadFile, MayLoadInput, MayLoadNames}
-use Rattle.dfi_top.specs.Loads.{Load, Loaded, AreLoads}
-use Rattle.dfi_top.specs.Reply.{Said, Says, NamesGave, RepliesToNumbers, InputGave, RepliesToModule, FileGave, RepliesToReplay, RepliesToJob, said_by}
+use Rattle.dfi_top.specs.Loads.{Loaded, AreLoads}
+use Rattle.dfi_top.specs.Reply.{Says, NamesGave, RepliesToNumbers, InputGave, RepliesToModule, FileGave, RepliesToReplay, RepliesToJob, said_by}
 use Rattle.dfi_top.specs.Stages.{Goes}
 use Rattle.dfi_top.specs.Texts.{input_text, usage_text}
 use Rattle.dfi_top.specs.TopCall.{RepliesToWords}

@@ -1,5 +1,5 @@
 -- Runs of a module whose reads are all checked.
-use Rattle.std.proofs.Common.{◌≡◌, ℕ, zero, suc, true, false, not, List, [], ◌∷◌, Option, None, Some, replicate, length, refl, sym, ap, subst, ◌∙◌, reverse, slice_get, Result, Ok, Err, IfOk, inl}
+use Rattle.std.proofs.Common.{◌≡◌, ℕ, zero, suc, true, false, not, List, None, Some, replicate, refl, sym, ap, subst, ◌∙◌, reverse, slice_get, Result, Ok, Err, IfOk, inl}
 use Rattle.std.specs.Prelude.{ℤ}
 use Rattle.dfi_base.specs.declared.numbers.Name.{Name}
 use Rattle.tac_ir.specs.declared.run.Journal.{Journal}

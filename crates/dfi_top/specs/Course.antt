@@ -1,5 +1,5 @@
 -- How far a call may have loaded: each file only behind good ones.
-use Rattle.std.specs.Prelude.{◌≡◌, ℕ, ℤ, Option, None, Some, Ok, Err, List, [], ◌∷◌}
+use Rattle.std.specs.Prelude.{◌≡◌, ℕ, ℤ, Option, Some, Ok, Err, List, [], ◌∷◌}
 use Rattle.tac_ir.specs.Module.{Module}
 use Rattle.number_lists.specs.Lists.{int_of, list_of}
 use Rattle.dfi_words.specs.declared.job.Job.{Job}

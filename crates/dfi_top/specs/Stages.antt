@@ -2,7 +2,6 @@
 use Rattle.std.specs.Prelude.{ℕ, Option, Result, Ok, Err, List}
 use Rattle.dfi_base.specs.declared.memory.Memory.{Memory}
 use Rattle.dfi_io.specs.Files.{Files}
-use Rattle.tac_ir.specs.declared.run.Journal.{Journal}
 use Rattle.dfi_top.specs.Loads.{Load, AreLoads}
 use Rattle.dfi_top.specs.Reply.{Said}
 

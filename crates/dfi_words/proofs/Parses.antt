@@ -4,7 +4,7 @@ use Rattle.std.specs.List.{AllByRecursion as Each, list_any}
 use Rattle.std.proofs.lemmas.Bool.{and_parts}
 use Rattle.std.proofs.lemmas.Str.{IsUtf8-string_bytes}
 use Rattle.std.proofs.lemmas.Slice.Eq.{bytes_eq-Decides}
-use Rattle.clap.specs.Walk.{Row, Rule, Text, Held, all_of, first_of, finished, has_row, is_empty, nothing_held, settled, with_default}
+use Rattle.clap.specs.Walk.{Row, Rule, Text, Held, all_of, first_of, finished, has_row, nothing_held, with_default}
 use Rattle.clap.specs.Kinds.{Kinds, IsAmong, check_kinds, or_else}
 use Rattle.clap.specs.Faults.{check_fault, default_fault, defaults_fault, fault_of, level_fault, settle_fault, walk_fault}
 use Rattle.clap.specs.Simple.{App, HasMatchesOf, built, filled_from, is_simple, matches_of}

@@ -1,7 +1,6 @@
 -- The line that tells the first fault of a source.
 use Rattle.std.specs.Prelude.{ℕ, List, [], ◌∷◌, ◌++◌, codes}
 use Rattle.std.specs.Fmt.{decimal}
-use Rattle.dfi_base.specs.declared.numbers.Line.{Line}
 use Rattle.c_lex.specs.Bytes.{line_at}
 use Rattle.c_lex.specs.declared.fault.LexFault.{LexFault}
 use Rattle.c_parse.specs.declared.fault.ParseFault.{ParseFault}

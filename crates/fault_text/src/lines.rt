@@ -1,8 +1,8 @@
 ghost use Rattle.std.specs.Prelude.{◌≡◌, IfOk, codes};
-ghost use Rattle.c_lex.specs.Bytes.{line_at, newlines};
+ghost use Rattle.c_lex.specs.Bytes.{line_at};
 ghost use Rattle.fault_text.specs.FaultText.{big_code, big_type, lex_text, lower_text, parse_text, told_at, type_text};
 
-use c_lex::LexFault;
+use c_lex::{LexFault, newlines};
 use c_parse::ParseFault;
 use c_typed::{BigWhat, TypeFault};
 use dfi_base::Memory;
@@ -16,12 +16,6 @@ fn told_at(alloc: Global, line: u64, words: &str) -> Result<Vec<u8>, Memory>
     let mut text = String::new(alloc);
     writeln!(text, "line {line}: {words}")?;
     Ok(text.into_bytes())
-}
-
-fn newlines(text: &[u8]) -> usize
-    ensures { result ≡ newlines text.now }
-{
-    text.iter().filter(|byte| **byte == b'\n').count()
 }
 
 /// The line, from 1, of the byte at a place.

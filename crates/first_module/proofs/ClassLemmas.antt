@@ -1,9 +1,9 @@
 -- The classes of definitions part them by their readers.
-use Rattle.std.proofs.Common.{◌≡◌, ℕ, zero, suc, ◌+◌, ◌<◌, ◌≤◌, true, false, ◌||◌, List, [], ◌∷◌, length, map, nat_lt, Option, Some, None, inl, inr, refl, sym, ap, subst, ◌∙◌, arith}
-use Rattle.std.specs.Prelude.{IsTrue, slice_get}
-use Rattle.std.specs.List.{AllByRecursion, list_all, list_any, range_with_len}
+use Rattle.std.proofs.Common.{◌≡◌, ℕ, zero, suc, ◌+◌, ◌<◌, ◌≤◌, true, false, ◌||◌, List, [], ◌∷◌, length, map, Option, Some, None, inl, inr, refl, sym, ap, subst, ◌∙◌, arith}
+use Rattle.std.specs.Prelude.{slice_get}
+use Rattle.std.specs.List.{AllByRecursion, list_any, range_with_len}
 use Rattle.std.specs.Cmp.Lexicographic.{bytes_decides}
-use Rattle.std.proofs.lemmas.Bool.{and_from, cases_lt, eq-eqb, false≢true, lt-ltb, ne_eqb, or_from, or_left}
+use Rattle.std.proofs.lemmas.Bool.{cases_lt, eq-eqb, false≢true, ne_eqb, or_from, or_left}
 use Rattle.std.proofs.lemmas.List.{get_or-map, length-map}
 use Rattle.std.proofs.lemmas.List.Elements.{All-from_recursion}
 use Rattle.std.proofs.lemmas.List.FromFn.{get_or-map-range_with_len, length-map-range_with_len}
@@ -13,9 +13,9 @@ use Rattle.tac_ir.specs.Module.{Module}
 use Rattle.first_module.specs.ClassesOf.{classes_of, readers_from, readers_of, same_list}
 use Rattle.first_module.specs.EachOnce.{each_once, place_of}
 use Rattle.first_module.specs.Readers.{Ascends}
-use Rattle.first_module.proofs.AscendLemmas.{has-below, has-within}
+use Rattle.first_module.proofs.AscendLemmas.{has-within}
 use Rattle.first_module.proofs.NumberLemmas.{same_itself}
-use Rattle.first_module.proofs.OnceLemmas.{each_once-has, length-each_once, place_of-le, same_place}
+use Rattle.first_module.proofs.OnceLemmas.{each_once-has, same_place}
 
 -- the set of a read, counted from 0
 abbrev pub set_at : List (List ℕ) → ℕ → List ℕ

@@ -1,5 +1,5 @@
 -- What good form says of the tables of code.
-use Rattle.std.proofs.Common.{◌≡◌, ℕ, zero, suc, ◌+◌, ◌<◌, ◌≤◌, Bool, true, false, cond, not, ◌||◌, ◌&&◌, List, [], ◌∷◌, ◌++◌, length, map, replicate, nat_lt, Option, Some, None, refl, sym, ap, subst, ◌∙◌, arith}
+use Rattle.std.proofs.Common.{◌≡◌, ℕ, suc, ◌+◌, ◌<◌, ◌≤◌, Bool, true, false, cond, not, ◌||◌, ◌&&◌, List, [], ◌∷◌, length, map, replicate, nat_lt, Option, Some, None, refl, sym, ap, subst, ◌∙◌, arith}
 use Rattle.std.specs.Prelude.{IsTrue, All, slice_get, sum, if◌then◌else◌}
 use Rattle.std.specs.List.{AllByRecursion, list_all, list_any, range_with_len}
 use Rattle.std.proofs.lemmas.Bool.{and_from, false≢true}
@@ -14,12 +14,12 @@ use Rattle.tac_ir.specs.declared.code.Instr.{Instr}
 use Rattle.tac_ir.specs.declared.code.Lined.{Lined}
 use Rattle.tac_ir.specs.declared.code.Place.{Place}
 use Rattle.tac_ir.specs.Counts.{points_in_code}
-use Rattle.tac_ir.specs.GoodForm.{GoodForm, IsGoodInstr, NamesExist}
+use Rattle.tac_ir.specs.GoodForm.{GoodForm, NamesExist}
 use Rattle.tac_ir.specs.Layout.{shapes_of_globals}
-use Rattle.tac_ir.specs.Module.{IsOrdered, Module, is_chain}
+use Rattle.tac_ir.specs.Module.{IsOrdered, is_chain}
 use Rattle.tac_ir.specs.Numbers.{defs_in_code, defs_made, new_def, new_read, numbers_in, numbers_in_funs, reads_made}
-use Rattle.tac_ir.specs.Places.{IsPlace, end_from, shape_of_place}
-use Rattle.word_table.specs.Tables.{AreSeparate, CanRun, HasGoodTables, IsNumberOf}
+use Rattle.tac_ir.specs.Places.{end_from, shape_of_place}
+use Rattle.word_table.specs.Tables.{CanRun}
 use Rattle.first_module.specs.ClassesOf.{classes_of, readers_of, same_list}
 use Rattle.first_module.specs.EachOnce.{each_once, place_of}
 use Rattle.first_module.specs.ModuleOf.{module_of}
@@ -27,7 +27,7 @@ use Rattle.first_module.specs.Readers.{Ascends}
 use Rattle.first_module.specs.SetsOf.{all_sets, set_by, sets_behind, sets_of, straight_sets}
 use Rattle.first_module.specs.StraightLine.{global_at, is_straight, is_straight_behind}
 use Rattle.first_module.specs.Trail.{Below, NamesWithin}
-use Rattle.first_module.proofs.AscendLemmas.{ascends-wider, chain-from_ascends}
+use Rattle.first_module.proofs.AscendLemmas.{chain-from_ascends}
 use Rattle.first_module.proofs.ClassLemmas.{apart_at}
 use Rattle.first_module.proofs.CountLemmas.{count-le}
 use Rattle.first_module.proofs.EveryLemmas.{ascends-range, classes-every, every-ascends}

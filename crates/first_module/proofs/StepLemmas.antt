@@ -1,5 +1,5 @@
 -- What a step of the code does is what the definitions of a straight line say.
-use Rattle.std.proofs.Common.{◌≡◌, ℕ, suc, ◌+◌, ◌<◌, Bool, true, false, List, [], ◌∷◌, ◌++◌, length, get_or, set, Option, Some, None, inl, inr, refl, sym, ap, subst, ◌∙◌, arith}
+use Rattle.std.proofs.Common.{◌≡◌, ℕ, ◌+◌, ◌<◌, Bool, true, false, List, [], ◌∷◌, ◌++◌, length, get_or, set, Option, Some, None, inl, inr, refl, sym, ap, ◌∙◌, arith}
 use Rattle.std.specs.Prelude.{is_some, nat_eq, IfSome}
 use Rattle.std.proofs.lemmas.Bool.{cases_eq, eq-eqb, false≢true, ne_eqb}
 use Rattle.std.proofs.lemmas.List.{get_or-set_same, get_or-set_other, length-set}
@@ -9,7 +9,7 @@ use Rattle.first_module.specs.declared.steps.Step.{Step}
 use Rattle.first_module.specs.StraightLine.{behind_by, global_at, global_behind, is_plain}
 use Rattle.first_module.specs.SetsOf.{definitions_of, is_global, last_definition_of, or_none, set_by, target_of}
 use Rattle.first_module.specs.Steps.{IsStepWithin, by_global, definitions_after, last_of, moved_by, sets_in, step_of}
-use Rattle.first_module.specs.Trail.{Below, HasTrail, NamesWithin, Sets}
+use Rattle.first_module.specs.Trail.{Below, NamesWithin}
 
 -- Which instructions have a step.
 

@@ -1,6 +1,6 @@
 -- One instruction more of a straight line.
-use Rattle.std.proofs.Common.{◌≡◌, ℕ, zero, suc, ◌+◌, ◌-◌, ◌<◌, Bool, true, false, ◌&&◌, List, [], ◌∷◌, ◌++◌, length, get_or, set, take, drop, reverse, Option, Some, None, inl, inr, refl, sym, ap, subst, ◌∙◌, arith}
-use Rattle.std.specs.Prelude.{is_some, nat_eq, IfSome}
+use Rattle.std.proofs.Common.{◌≡◌, ℕ, zero, suc, ◌+◌, ◌-◌, ◌<◌, true, false, ◌&&◌, List, [], ◌∷◌, ◌++◌, length, get_or, set, take, drop, reverse, Option, Some, None, inl, inr, refl, sym, ap, subst, ◌∙◌, arith}
+use Rattle.std.specs.Prelude.{is_some, IfSome}
 use Rattle.std.specs.List.{AllByRecursion}
 use Rattle.std.proofs.lemmas.Bool.{cases_eq, eq-eqb, ne_eqb}
 use Rattle.std.proofs.lemmas.List.{append_assoc, drop_more, get_or-set_other, get_or-set_same, reverse-append, take_more}
@@ -8,7 +8,7 @@ use Rattle.std.proofs.lemmas.List.Elements.{All-from_recursion}
 use Rattle.tac_ir.specs.declared.code.Instr.{Instr}
 use Rattle.tac_ir.specs.declared.code.Lined.{Lined}
 use Rattle.first_module.specs.declared.steps.Step.{Step}
-use Rattle.first_module.specs.StraightLine.{behind_by, global_at, global_behind, is_plain, is_straight_behind}
+use Rattle.first_module.specs.StraightLine.{behind_by, global_behind, is_plain, is_straight_behind}
 use Rattle.first_module.specs.SetsOf.{definitions_of, set_by, sets_behind}
 use Rattle.first_module.specs.Steps.{IsStepWithin, definitions_after, last_of, moved_by, sets_in, step_of}
 use Rattle.first_module.specs.Trail.{HasTrail, Moves, NamesWithin, Sets}

@@ -1,7 +1,6 @@
 -- Straight lines: the code of one function without jumps, calls, threads and blocks, in which each access is to a global that the
 -- code itself names. The instructions before a place are kept newest first.
 use Rattle.std.specs.Prelude.{ℕ, Bool, true, false, ◌&&◌, nat_eq, List, [], ◌∷◌, Option, Some, None, is_some}
-use Rattle.tac_ir.specs.declared.code.Code.{Code}
 use Rattle.tac_ir.specs.declared.code.Fun.{Fun}
 use Rattle.tac_ir.specs.declared.code.Instr.{Instr}
 use Rattle.tac_ir.specs.declared.code.Lined.{Lined}

@@ -19,7 +19,7 @@ use Rattle.tac_thread.specs.declared.guest.Stage.{Stage}
 use Rattle.tac_thread.specs.Fetched.{instr_in}
 use Rattle.tac_thread.specs.Life.{instr_of, temp, with_temp, at_index, with_stage}
 use Rattle.tac_thread.specs.Answered
-use Rattle.tac_thread.specs.Answered.{temps_from, called, entered, resumed_at, behind_call, joined, joined_at}
+use Rattle.tac_thread.specs.Answered.{temps_from, called, entered, resumed_at, behind_call}
 use Rattle.tac_thread.specs.Flat.{flat_meaning}
 use Rattle.flat_path.specs.Standing.{FlatActivation, FlatLife, point_of, first_spot, second_spot, IsCall, AreCallers, IsStack, IsBefore, IsEntering, IsLeaving, IsAt}
 use Rattle.flat_path.proofs.Table.{writes_one}

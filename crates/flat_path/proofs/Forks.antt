@@ -21,7 +21,7 @@ use Rattle.tac_thread.specs.RunsOn.{RunsOn}
 use Rattle.tac_thread.specs.Begun.{branch_of}
 use Rattle.tac_thread.specs.Answered.{answered_first, answered_at, answered}
 use Rattle.tac_thread.specs.Threads
-use Rattle.tac_thread.specs.Threads.{is_waiting, HasBranch, at_fork, AreBranches}
+use Rattle.tac_thread.specs.Threads.{HasBranch, at_fork, AreBranches}
 use Rattle.tac_thread.specs.Flat.{flat_meaning}
 use Rattle.tac_thread.proofs.Trees.{running_is}
 use Rattle.tac_thread.proofs.Forking.{few_branches, runs_alone}

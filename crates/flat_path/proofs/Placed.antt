@@ -1,7 +1,7 @@
 -- Lives in place are those of the threads that live: which run, and which have ended.
 use Rattle.std.proofs.Common.{◌≡◌, ℕ, ◌+◌, ◌*◌, ◌/◌, ◌%◌, ◌≤◌, ◌<◌, List, Bool, true, false, refl, Option, Some, None, arith, sym, ◌∙◌, ap, subst}
 use Rattle.dfi_base.specs.Lives
-use Rattle.dfi_base.specs.Lives.{own, Begins, Ended, IsNext}
+use Rattle.dfi_base.specs.Lives.{own, Begins, Ended}
 use Rattle.dfi_base.specs.Lives.Ended.{ended}
 use Rattle.tac_ir.specs.declared.run.Op.{Op}
 use Rattle.tac_ir.specs.declared.run.Entry.{Entry}

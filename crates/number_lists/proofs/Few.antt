@@ -1,5 +1,5 @@
 -- A list has no more numbers than bytes.
-use Rattle.std.proofs.Common.{◌≡◌, ℕ, zero, suc, ◌+◌, ◌≤◌, Bool, true, false, List, [], ◌∷◌, length, Option, Some, None, refl, sym, ap, subst, ◌∙◌, arith}
+use Rattle.std.proofs.Common.{◌≡◌, ℕ, suc, ◌≤◌, Bool, true, false, List, [], ◌∷◌, length, Option, Some, None, refl, sym, ap, subst, ◌∙◌, arith}
 use Rattle.std.specs.List.{filter}
 use Rattle.number_lists.specs.Lists.{is_blank, pieces_of, words_of, is_filled, with_first, with_number, numbers_of, list_of}
 use Rattle.number_lists.proofs.Walk.{none_some}

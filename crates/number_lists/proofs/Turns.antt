@@ -1,11 +1,11 @@
 -- One turn of the loops, over plain values.
-use Rattle.std.proofs.Common.{◌≡◌, ℕ, suc, ◌+◌, ◌<◌, ◌≤◌, List, [], ◌∷◌, ◌++◌, length, get_or, drop, Option, Some, None, Result, Ok, Err, refl, sym, ap, subst, ◌∙◌, arith, drop-cons}
+use Rattle.std.proofs.Common.{◌≡◌, ℕ, suc, ◌+◌, ◌<◌, List, [], length, get_or, drop, Option, Some, None, Err, sym, ap, subst, ◌∙◌, arith, drop-cons}
 use Rattle.std.proofs.Math.Seq.{drop-length}
 use Rattle.number_lists.specs.declared.scan.Form.{Form}
 use Rattle.number_lists.specs.declared.scan.Number.{Number}
 use Rattle.number_lists.specs.declared.scan.State.{State}
-use Rattle.number_lists.specs.Lists.{list_of, IsRefusedAt}
-use Rattle.number_lists.specs.Scanning.{step, ended, given, last, scan}
+use Rattle.number_lists.specs.Lists.{IsRefusedAt}
+use Rattle.number_lists.specs.Scanning.{step, given, last, scan}
 use Rattle.number_lists.proofs.Numbers.{Makes}
 use Rattle.number_lists.proofs.Whole.{Reads, reads}
 

@@ -1,16 +1,15 @@
 -- Going through the bytes of a list finds its numbers, or where they stop being one.
-use Rattle.std.proofs.Common.{◌≡◌, ℕ, zero, suc, ◌+◌, ◌-◌, ◌*◌, ◌<◌, ◌≤◌, ◌⊎◌, inl, inr, Bool, true, false, nat_eq, nat_le, List, [], ◌∷◌, ◌++◌, length, take, Option, Some, None, is_some, IsTrue, Result, Ok, Err, refl, sym, ap, subst, ◌∙◌, arith, true≢false, if◌then◌else◌}
+use Rattle.std.proofs.Common.{◌≡◌, ℕ, ◌+◌, ◌-◌, ◌*◌, ◌≤◌, Bool, true, false, nat_eq, nat_le, List, [], ◌∷◌, ◌++◌, Option, Some, None, is_some, refl, sym, ap, subst, ◌∙◌, arith, true≢false, if◌then◌else◌}
 use Rattle.std.specs.Char.{is_ascii_digit}
-use Rattle.std.proofs.lemmas.List.{append-nil, append_assoc}
 use Rattle.std.proofs.lemmas.Bool.Decides.{nat_tests}
 use Rattle.number_lists.specs.declared.scan.Form.{Form}
 use Rattle.number_lists.specs.declared.scan.Number.{Number}
 use Rattle.number_lists.specs.declared.scan.State.{State}
-use Rattle.number_lists.specs.Lists.{is_blank, is_filled, value_of, words_of, numbers_of, with_number, list_of, Continues, IsRefusedAt}
-use Rattle.number_lists.specs.Scanning.{most_of, nought, magnitude_with, begun, step, ended, given, last, scan}
+use Rattle.number_lists.specs.Lists.{is_blank, is_filled, value_of, with_number}
+use Rattle.number_lists.specs.Scanning.{most_of, nought, magnitude_with, begun, step, ended}
 use Rattle.number_lists.specs.Scanning as scanning
-use Rattle.number_lists.proofs.Words.{IsWord, word_with, words_behind_blank, words_behind_word, words_of_word, goes_on}
-use Rattle.number_lists.proofs.Numbers.{signed, AreDigits, MayBe, IsSpelled, Makes, digit_is_no_blank, digit_is_no_sign, digits_are_word, spelled_is_word, digits_before, digits_behind, value_behind, value_grows, filled_behind}
+use Rattle.number_lists.proofs.Words.{word_with, goes_on}
+use Rattle.number_lists.proofs.Numbers.{signed, AreDigits, MayBe, IsSpelled, digit_is_no_blank, digit_is_no_sign, digits_are_word, digits_before, digits_behind, value_behind, value_grows, filled_behind}
 
 -- the bytes since the last blank, by the state that they lead to
 abbrev pub Pending : Form → State → List ℕ → Type 0

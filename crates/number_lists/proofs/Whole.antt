@@ -1,11 +1,11 @@
 -- Going through all bytes.
-use Rattle.std.proofs.Common.{◌≡◌, ℕ, zero, suc, ◌+◌, ◌<◌, ◌⊎◌, inl, inr, Bool, true, false, List, [], ◌∷◌, ◌++◌, length, take, Option, Some, None, is_some, IsTrue, Result, Ok, Err, refl, sym, ap, subst, ◌∙◌, arith, true≢false, if◌then◌else◌}
+use Rattle.std.proofs.Common.{◌≡◌, ℕ, suc, ◌+◌, ◌<◌, ◌⊎◌, inl, inr, Bool, true, false, List, [], ◌∷◌, ◌++◌, length, take, Option, Some, None, is_some, Result, Ok, Err, refl, sym, ap, subst, ◌∙◌, arith, true≢false, if◌then◌else◌}
 use Rattle.std.proofs.lemmas.List.{append-nil, append_assoc}
 use Rattle.number_lists.specs.declared.scan.Form.{Form}
 use Rattle.number_lists.specs.declared.scan.Number.{Number}
 use Rattle.number_lists.specs.declared.scan.State.{State}
 use Rattle.number_lists.specs.Lists.{is_blank, is_filled, list_of, with_number, Continues, IsRefusedAt}
-use Rattle.number_lists.specs.Scanning.{most_of, nought, begun, step, ended, given, last, scan}
+use Rattle.number_lists.specs.Scanning.{most_of, nought, begun, step, given, last, scan}
 use Rattle.number_lists.specs.Scanning as scanning
 use Rattle.number_lists.proofs.Words.{IsWord}
 use Rattle.number_lists.proofs.Numbers.{AreDigits, IsSpelled, Makes, digit_is_no_blank}

@@ -2,9 +2,7 @@
 use Rattle.std.proofs.Common.{◌≡◌, ℕ, ◌+◌, ◌<◌, ◌≤◌, Bool, true, false, List, [], ◌∷◌, ◌++◌, Result, Ok, Err, refl, ap, sym, ◌∙◌, subst, arith, append_assoc, append-nil, add-zero}
 use Rattle.c_typed.specs.declared.types.ObjectType.{ObjectType}
 use Rattle.tac_ir.specs.declared.code.Place.{Place}
-use Rattle.tac_lower.specs.declared.draft.Draft.{Draft}
 use Rattle.tac_lower.specs.declared.draft.Ends.{Ends}
-use Rattle.tac_lower.specs.declared.draft.Numbers.{Numbers}
 use Rattle.tac_lower.specs.declared.writer.Writer.{Writer}
 use Rattle.tac_lower.specs.declared.writer.Spot.{Spot}
 use Rattle.tac_lower.specs.declared.writer.Stop.{Stop}

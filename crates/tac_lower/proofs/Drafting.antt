@@ -1,5 +1,5 @@
 -- The drafts of all functions, one function after the other, and where the limit on points is passed.
-use Rattle.std.proofs.Common.{◌≡◌, ℕ, suc, ◌+◌, ◌-◌, ◌<◌, ◌≤◌, Bool, true, false, nat_lt, nat_eq, List, [], ◌∷◌, ◌++◌, length, drop, add-one, Option, Some, None, Err, refl, ap, sym, ◌∙◌, subst, arith, append_assoc, append-nil}
+use Rattle.std.proofs.Common.{◌≡◌, ℕ, suc, ◌+◌, ◌-◌, ◌<◌, ◌≤◌, Bool, true, false, nat_lt, List, [], ◌∷◌, ◌++◌, length, drop, add-one, Option, Some, None, Err, refl, ap, sym, ◌∙◌, subst, arith, append_assoc, append-nil}
 use Rattle.std.proofs.lemmas.List.{drop_all}
 use Rattle.std.proofs.lemmas.Bool.{le-ltb, lt-ltb}
 use Rattle.c_typed.specs.Typed.{Typed}
@@ -8,7 +8,6 @@ use Rattle.tac_lower.specs.declared.draft.Draft.{Draft}
 use Rattle.tac_lower.specs.declared.draft.Numbers.{Numbers}
 use Rattle.tac_lower.specs.declared.progress.Progress.{Progress}
 use Rattle.tac_lower.specs.declared.writer.Stop.{Stop}
-use Rattle.tac_lower.specs.Parts.{Part}
 use Rattle.tac_lower.specs.Functions.{function, around, first_of, no_loop, drafts_from}
 use Rattle.tac_lower.specs.Limits.{Share, passing, point_limit}
 use Rattle.tac_lower.specs.CodeOf.{sizes_of, first_numbers}

@@ -1,9 +1,9 @@
 -- Emitting pieces behind each other, and those that know where they begin.
-use Rattle.std.proofs.Common.{◌≡◌, ℕ, ◌+◌, ◌<◌, ◌≤◌, false, Result, Ok, Err, ◌++◌, refl, ap, ◌∙◌, subst, arith, append_assoc}
+use Rattle.std.proofs.Common.{◌≡◌, ℕ, ◌+◌, ◌<◌, false, Result, Ok, Err, ◌++◌, refl, ap, ◌∙◌, subst, arith, append_assoc}
 use Rattle.tac_lower.specs.declared.draft.Ends.{Ends}
 use Rattle.tac_lower.specs.declared.writer.Writer.{Writer}
 use Rattle.tac_lower.specs.declared.writer.Stop.{Stop}
-use Rattle.tac_lower.specs.Parts.{Part, from_here, within, ◌▷◌, ◌⨟◌}
+use Rattle.tac_lower.specs.Parts.{Part, from_here, within, ◌⨟◌}
 use Rattle.tac_lower.specs.Instrs.{jump}
 use Rattle.tac_lower.specs.Stmts.{leaving}
 use Rattle.tac_lower.specs.Emits.{Exact, Emitted, Emits}

@@ -1,17 +1,17 @@
 -- The fork in front of branches.
-use Rattle.std.proofs.Common.{◌≡◌, ℕ, suc, ◌+◌, ◌<◌, ◌≤◌, false, List, [], ◌∷◌, ◌++◌, map, sum, length, drop, Result, Ok, Err, refl, ap, sym, ◌∙◌, subst, arith, append_assoc, append-nil}
+use Rattle.std.proofs.Common.{◌≡◌, ℕ, ◌+◌, ◌<◌, ◌≤◌, List, [], ◌∷◌, ◌++◌, map, sum, length, drop, Result, Ok, Err, refl, ap, sym, ◌∙◌, subst, arith, append_assoc, append-nil}
 use Rattle.std.proofs.lemmas.List.{drop_all}
 use Rattle.std.proofs.lemmas.List.Sums.{sum_by-cons}
 use Rattle.tac_ir.specs.declared.code.Instr.{Instr}
 use Rattle.tac_lower.specs.declared.draft.Ends.{Ends}
 use Rattle.tac_lower.specs.declared.writer.Writer.{Writer}
 use Rattle.tac_lower.specs.declared.writer.Stop.{Stop}
-use Rattle.tac_lower.specs.Parts.{Part, one, in_turn, ◌▷◌, ◌⨟◌}
+use Rattle.tac_lower.specs.Parts.{Part, one, in_turn}
 use Rattle.tac_lower.specs.Instrs.{draft, no_number}
 use Rattle.tac_lower.specs.Stmts.{entries, fork, branches}
-use Rattle.tac_lower.specs.Emits.{Exact, Emitted, Emits, Counts}
+use Rattle.tac_lower.specs.Emits.{Exact, Emits, Counts}
 use Rattle.tac_lower.specs.Nested.{Forks}
-use Rattle.tac_lower.proofs.Follows.{next, halt}
+use Rattle.tac_lower.proofs.Follows.{next}
 
 abbrev pub total : List (Part ℕ) → ℕ
 total ps = sum (map (λ p. p.points) ps)

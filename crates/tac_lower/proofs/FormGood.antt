@@ -1,6 +1,6 @@
 -- The code of a well-formed program that passes no limit is of good form.
 use Rattle.std.proofs.Common.{◌≡◌, ℕ, zero, suc, ◌+◌, ◌<◌, ◌≤◌, Bool, true, false, List, [], ◌∷◌, map, take, length, Some, None, refl, ap, sym, ◌∙◌, subst, arith}
-use Rattle.std.specs.Prelude.{slice_get, All, pos}
+use Rattle.std.specs.Prelude.{slice_get, pos}
 use Rattle.std.proofs.lemmas.List.{length-map}
 use Rattle.std.proofs.lemmas.Option.{slice_get_within}
 use Rattle.c_typed.specs.Typed.{Typed}
@@ -11,7 +11,7 @@ use Rattle.c_typed.specs.declared.program.Variable.{Variable}
 use Rattle.c_typed.specs.declared.program.Global.{Global}
 use Rattle.c_typed.specs.Types.{scalar_type}
 use Rattle.c_typed.specs.Decls.{is_scalar}
-use Rattle.c_typed.specs.IsWell.{sizes_in, IsBase, IsObject, Context, Callee, callee_of, context_of, objects_of, placed, IsFunction, IsStruct, IsEarlier, IsWell, AreStmts}
+use Rattle.c_typed.specs.IsWell.{sizes_in, IsObject, context_of, objects_of, placed, IsFunction, IsWell, AreStmts}
 use Rattle.tac_ir.specs.declared.code.Code.{Code}
 use Rattle.tac_ir.specs.declared.code.Fun.{Fun}
 use Rattle.tac_ir.specs.declared.code.Shape.{Shape}

@@ -10,7 +10,7 @@ use Rattle.c_typed.specs.declared.program.Variable.{Variable}
 use Rattle.c_typed.specs.declared.program.Global.{Global}
 use Rattle.c_typed.specs.Types.{words_of}
 use Rattle.c_typed.specs.Decls.{is_scalar}
-use Rattle.c_typed.specs.IsWell.{sizes_in, IsBase, IsObject, Context, Callee, callee_of, context_of, objects_of, placed, IsFunction, IsStruct, IsEarlier, IsWell, AreStmts}
+use Rattle.c_typed.specs.IsWell.{sizes_in, IsObject, context_of, objects_of, placed, IsFunction, IsWell, AreStmts}
 use Rattle.tac_ir.specs.declared.code.Code.{Code}
 use Rattle.tac_ir.specs.declared.code.Shape.{Shape}
 use Rattle.tac_ir.specs.GoodForm.{IsGoodCode}

@@ -4,7 +4,7 @@ use Rattle.c_typed.specs.declared.stmt.Condition.{Condition}
 use Rattle.tac_lower.specs.declared.draft.Ends.{Ends}
 use Rattle.tac_lower.specs.declared.writer.Writer.{Writer}
 use Rattle.tac_lower.specs.declared.writer.Stop.{Stop}
-use Rattle.tac_lower.specs.Parts.{Part, from_here, within, ◌▷◌, ◌⨟◌}
+use Rattle.tac_lower.specs.Parts.{Part, from_here, within, ◌⨟◌}
 use Rattle.tac_lower.specs.Instrs.{jump}
 use Rattle.tac_lower.specs.Stmts.{Around, condition, guard, turn, while, for}
 use Rattle.tac_lower.specs.Emits.{Emitted, Emits, Counts, Counted}

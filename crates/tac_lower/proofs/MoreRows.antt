@@ -1,6 +1,6 @@
 -- More small programs: a function that calls itself, loops, `&&` and `||`, structs, arrays and blocks.
 use Rattle.std.specs.Prelude.{pos}
-use Rattle.std.proofs.Common.{◌≡◌, ℕ, List, [], ◌∷◌, true, false, Option, Some, None, refl, ◌∙◌}
+use Rattle.std.proofs.Common.{◌≡◌, ℕ, List, [], ◌∷◌, true, false, Some, None, refl, ◌∙◌}
 use Rattle.c_ast.specs.declared.expr.BinaryOp.{BinaryOp}
 use Rattle.c_ast.specs.declared.stmt.AssignOp.{AssignOp}
 use Rattle.c_typed.specs.declared.types.BaseType.{BaseType}
@@ -9,7 +9,6 @@ use Rattle.c_typed.specs.declared.types.ExprType.{ExprType}
 use Rattle.c_typed.specs.declared.expr.PrefixOp.{PrefixOp}
 use Rattle.c_typed.specs.declared.program.Struct.{Struct}
 use Rattle.tac_ir.specs.declared.code.Shape.{Shape}
-use Rattle.tac_ir.specs.declared.code.Lined.{Lined}
 use Rattle.tac_ir.specs.declared.code.Place.{Place}
 use Rattle.tac_ir.specs.declared.code.Instr.{Instr}
 use Rattle.tac_ir.specs.declared.code.BinOp.{BinOp}

@@ -1,5 +1,5 @@
 -- The parameters of a function, one after the other.
-use Rattle.std.proofs.Common.{◌≡◌, ℕ, suc, ◌+◌, ◌≤◌, List, [], ◌∷◌, length, drop, add-one, Result, Ok, Err, ap, sym, subst}
+use Rattle.std.proofs.Common.{◌≡◌, ℕ, suc, ◌+◌, ◌≤◌, List, [], ◌∷◌, length, drop, add-one, Result, Ok, Err, sym, subst}
 use Rattle.std.proofs.lemmas.List.{drop_all}
 use Rattle.c_typed.specs.declared.program.Variable.{Variable}
 use Rattle.tac_ir.specs.declared.code.Place.{Place}

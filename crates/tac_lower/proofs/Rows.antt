@@ -1,21 +1,18 @@
 -- The code of small programs, by computation.
 use Rattle.std.specs.Prelude.{pos}
-use Rattle.std.proofs.Common.{◌≡◌, ℕ, List, [], ◌∷◌, true, false, Option, Some, None, refl, ◌∙◌}
-use Rattle.c_ast.specs.declared.expr.BinaryOp.{BinaryOp}
+use Rattle.std.proofs.Common.{◌≡◌, ℕ, List, [], ◌∷◌, Some, None, refl, ◌∙◌}
 use Rattle.c_ast.specs.declared.stmt.AssignOp.{AssignOp}
 use Rattle.c_typed.specs.declared.types.BaseType.{BaseType}
 use Rattle.c_typed.specs.declared.types.ObjectType.{ObjectType}
 use Rattle.c_typed.specs.declared.types.ExprType.{ExprType}
 use Rattle.c_typed.specs.declared.program.Global.{Global}
 use Rattle.c_typed.specs.declared.program.Variable.{Variable}
-use Rattle.tac_ir.specs.declared.code.Code.{Code}
 use Rattle.tac_ir.specs.declared.code.Shape.{Shape}
 use Rattle.tac_ir.specs.declared.code.Lined.{Lined}
 use Rattle.tac_ir.specs.declared.code.Place.{Place}
 use Rattle.tac_ir.specs.declared.code.Instr.{Instr}
-use Rattle.tac_ir.specs.declared.code.BinOp.{BinOp}
 use Rattle.tac_lower.specs.CodeOf.{code_of}
-use Rattle.tac_lower.proofs.Small.{Tree, Trees}
+use Rattle.tac_lower.proofs.Small.{Tree}
 use Rattle.tac_lower.proofs.SmallStmts.{Code as Text, Codes as Texts, Small, at_line, program, coded}
 
 abbrev pub line : ℕ → Instr → Lined

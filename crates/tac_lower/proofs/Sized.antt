@@ -1,13 +1,12 @@
 -- A piece has as many drafts as it says, whatever the numbers.
-use Rattle.std.proofs.Common.{◌≡◌, ℕ, ◌+◌, Bool, true, false, pos, List, [], ◌∷◌, ◌++◌, map, length, take, Option, Some, None, refl, ap, sym, ◌∙◌, subst}
+use Rattle.std.proofs.Common.{◌≡◌, ℕ, ◌+◌, Bool, true, false, List, [], ◌∷◌, ◌++◌, map, length, Some, None, refl, ap, sym, ◌∙◌, subst}
 use Rattle.std.proofs.lemmas.List.{length-append}
 use Rattle.c_ast.specs.declared.expr.BinaryOp.{BinaryOp}
-use Rattle.c_ast.specs.declared.stmt.AssignOp.{AssignOp}
 use Rattle.c_typed.specs.declared.types.ObjectType.{ObjectType}
 use Rattle.c_typed.specs.declared.types.ExprType.{ExprType}
 use Rattle.c_typed.specs.declared.expr.PrefixOp.{PrefixOp}
 use Rattle.c_typed.specs.declared.expr.Expr.{fold-roll-Expr, ind-Expr, Expr}
-use Rattle.c_typed.specs.declared.expr.Form.{fold-roll-Form, Form, roll-Form, map-Form}
+use Rattle.c_typed.specs.declared.expr.Form.{fold-roll-Form, Form, map-Form}
 use Rattle.c_typed.specs.declared.expr.Form.TheOpen.{Form-F}
 use Rattle.tac_ir.specs.declared.code.Instr.{Instr}
 use Rattle.tac_ir.specs.declared.code.Place.{Place}
@@ -15,9 +14,9 @@ use Rattle.tac_lower.specs.declared.draft.Ends.{Ends}
 use Rattle.tac_lower.specs.declared.draft.Numbers.{Numbers}
 use Rattle.tac_lower.specs.declared.plan.Plan.{Plan}
 use Rattle.tac_lower.specs.declared.plan.Logic.{Logic}
-use Rattle.tac_lower.specs.Parts.{Part, given, chained, gathered, from_here, in_turn, ◌▷◌, ◌⨟◌}
-use Rattle.tac_lower.specs.Instrs.{quiet, constant, null, address, field, decay, index, get, load, same, new, call, test, test_past, skip, zero_again}
-use Rattle.tac_lower.specs.Values.{Yield, direct, left, Lowered, onward, temp, value, part_of, read, pointer_to, first_item, against_null, truth_as, truth_by, truth, is_int, negation, prefix, plan, carried, settled, both, either, logic, operation_by, allocation, object_of, form_step, expr}
+use Rattle.tac_lower.specs.Parts.{Part, given, chained, gathered, in_turn, ◌▷◌, ◌⨟◌}
+use Rattle.tac_lower.specs.Instrs.{quiet, address, field, decay, index, get, load, new, call, test, test_past}
+use Rattle.tac_lower.specs.Values.{Yield, direct, left, Lowered, onward, value, part_of, read, pointer_to, first_item, against_null, truth_as, truth_by, truth, is_int, negation, prefix, plan, carried, settled, both, either, logic, operation_by, object_of, form_step, expr}
 use Rattle.c_typed.specs.Types.{words_of}
 use Rattle.tac_lower.proofs.Levels.{form_yield, mapped}
 use Rattle.tac_lower.proofs.Chains.{truth_counts, prefix_counts, carried_counts, gathered_counts}

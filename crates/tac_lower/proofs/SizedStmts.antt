@@ -1,5 +1,5 @@
 -- The code of a statement and of a function has as many drafts as it says.
-use Rattle.std.proofs.Common.{◌≡◌, ℕ, zero, suc, ◌+◌, Bool, true, false, pos, List, [], ◌∷◌, map, length, take, Option, Some, None, refl, ap, sym, ◌∙◌, subst}
+use Rattle.std.proofs.Common.{◌≡◌, ℕ, zero, suc, ◌+◌, Bool, true, false, pos, List, [], ◌∷◌, map, take, Option, Some, None, refl, ap, sym, subst}
 use Rattle.dfi_base.specs.declared.numbers.Line.{Line}
 use Rattle.c_ast.specs.declared.stmt.AssignOp.{AssignOp}
 use Rattle.c_typed.specs.declared.types.ObjectType.{ObjectType}
@@ -10,16 +10,15 @@ use Rattle.c_typed.specs.declared.stmt.Branch.{Branch}
 use Rattle.c_typed.specs.declared.stmt.Condition.{Condition}
 use Rattle.c_typed.specs.declared.stmt.Stmt.{ind-Stmt, map-Stmt, roll-Stmt, Stmt}
 use Rattle.c_typed.specs.declared.stmt.Stmt.TheOpen.{Stmt-F}
-use Rattle.tac_lower.specs.declared.draft.Ends.{Ends}
 use Rattle.tac_lower.specs.declared.plan.Plan.{Plan}
-use Rattle.tac_lower.specs.Parts.{Part, given, from_here, within, in_turn, ◌▷◌, ◌⨟◌}
+use Rattle.tac_lower.specs.Parts.{Part, from_here, within, in_turn, ◌▷◌, ◌⨟◌}
 use Rattle.tac_lower.specs.Instrs.{constant, get, load, set, store, test, skip, jump}
 use Rattle.tac_lower.specs.Values.{Yield, Lowered, expr, value, truth, carried}
-use Rattle.tac_lower.specs.Stmts.{Around, assigned, update, scalar_at, compound, assignment_by, is_plain, returned, return, tested, condition, guard, choice, turn, while, for, stop, ended, fork, branches, stmt_step, stmt}
+use Rattle.tac_lower.specs.Stmts.{Around, assigned, update, scalar_at, compound, assignment_by, is_plain, returned, return, condition, guard, choice, turn, while, for, stop, ended, fork, stmt_step, stmt}
 use Rattle.tac_lower.specs.Functions.{parameters_from, default, function}
 use Rattle.tac_lower.proofs.Levels.{stmt_roll}
 use Rattle.tac_lower.proofs.Chains.{carried_counts, returned_counts}
-use Rattle.tac_lower.proofs.Loops.{while_ends, while_body, while_rest, for_ends, for_body, for_rest, condition_steady, guard_steady}
+use Rattle.tac_lower.proofs.Loops.{while_ends, while_body, while_rest, for_ends, for_body, for_rest}
 use Rattle.tac_lower.proofs.Sized.{SizedAs, Sized, sized_chained, sized_next, sized_as, AllSized, sized_in_turn, YieldSized, sized_onward, LoweredSized, value_sized, truth_sized, carried_sized, expr_sized}
 
 assigned_sized : (line : ℕ) (y : Yield) (v : Part ℕ) → YieldSized y → Sized v → Sized (assigned line y v)

@@ -18,11 +18,11 @@ use Rattle.tac_lower.specs.declared.draft.Draft.{Draft}
 use Rattle.tac_lower.specs.Parts.{Part, in_turn, ◌▷◌, ◌⨟◌}
 use Rattle.tac_lower.specs.Instrs.{constant}
 use Rattle.tac_lower.specs.Values.{expr, value}
-use Rattle.tac_lower.specs.Stmts.{Around, stmt, assignment, compound, returned, tested, condition, guard, choice, while, for, branches, ended, stmt_step}
+use Rattle.tac_lower.specs.Stmts.{Around, stmt, assignment, compound, returned, tested, choice, while, for, branches, ended, stmt_step}
 use Rattle.tac_lower.specs.Functions.{around, function_with, first_of, no_loop, drafts_from}
 use Rattle.tac_lower.specs.CodeOf.{code_of, code_with, sizes_of, first_numbers}
 use Rattle.tac_lower.proofs.Levels.{stmt_roll}
-use Rattle.tac_lower.proofs.Small.{Tree, Trees, written, lowered, lowers}
+use Rattle.tac_lower.proofs.Small.{Tree, written, lowered, lowers}
 
 mutual
   -- each with its line

@@ -1,5 +1,5 @@
 -- The pieces of a list, one after the other.
-use Rattle.std.proofs.Common.{◌≡◌, ℕ, ◌+◌, ◌≤◌, List, [], ◌∷◌, map, length, drop, Result, Ok, Err, sym, subst}
+use Rattle.std.proofs.Common.{◌≡◌, ℕ, ◌+◌, ◌≤◌, List, ◌∷◌, map, length, drop, Result, Ok, Err, sym, subst}
 use Rattle.std.proofs.lemmas.List.{drop_all}
 use Rattle.tac_lower.specs.declared.draft.Ends.{Ends}
 use Rattle.tac_lower.specs.declared.writer.Writer.{Writer}

@@ -1,5 +1,5 @@
 -- Functions (C99 6.9.1), and the drafts of all of them.
-use Rattle.std.specs.Prelude.{ℕ, zero, suc, ◌+◌, pos, Bool, nat_eq, List, [], ◌∷◌, ◌++◌, map, take, Option, Some, None}
+use Rattle.std.specs.Prelude.{ℕ, zero, suc, pos, nat_eq, List, [], ◌∷◌, map, take, Option, Some, None}
 use Rattle.c_typed.specs.declared.types.ObjectType.{ObjectType}
 use Rattle.c_typed.specs.declared.program.Function.{Function}
 use Rattle.c_typed.specs.declared.program.Variable.{Variable}

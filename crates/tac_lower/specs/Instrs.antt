@@ -1,11 +1,10 @@
 -- Pieces of one instruction, for a line. A fresh temporary is the next one.
-use Rattle.std.specs.Prelude.{ℕ, ◌+◌, ℤ, pos, Bool, true, false, List, Option, Some, None}
+use Rattle.std.specs.Prelude.{ℕ, ◌+◌, ℤ, pos, Bool, true, false, List, Some, None}
 use Rattle.tac_ir.specs.declared.code.Instr.{Instr}
 use Rattle.tac_ir.specs.declared.code.BinOp.{BinOp}
 use Rattle.tac_ir.specs.declared.code.UnOp.{UnOp}
 use Rattle.tac_ir.specs.declared.code.Place.{Place}
 use Rattle.c_typed.specs.declared.types.ObjectType.{ObjectType}
-use Rattle.tac_lower.specs.declared.draft.Numbers.{Numbers}
 use Rattle.tac_lower.specs.declared.draft.Taken.{Taken}
 use Rattle.tac_lower.specs.declared.draft.Draft.{Draft}
 use Rattle.tac_lower.specs.Parts.{Part, given, one, ◌⨟◌}

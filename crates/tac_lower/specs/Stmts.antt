@@ -1,6 +1,5 @@
 -- Statements (C99 6.8, and `par`), one case for each form.
-use Rattle.std.specs.Prelude.{ℕ, suc, ◌+◌, pos, Bool, true, false, List, [], ◌∷◌, ◌++◌, map, sum, Option, Some, None}
-use Rattle.dfi_base.specs.declared.numbers.Line.{Line}
+use Rattle.std.specs.Prelude.{ℕ, suc, ◌+◌, pos, Bool, true, false, List, [], ◌∷◌, map, sum, Option, Some, None}
 use Rattle.c_ast.specs.declared.stmt.AssignOp.{AssignOp}
 use Rattle.c_typed.specs.declared.types.BaseType.{BaseType}
 use Rattle.c_typed.specs.declared.types.ObjectType.{ObjectType}
@@ -13,11 +12,10 @@ use Rattle.c_typed.specs.declared.stmt.Stmt.{fold-Stmt, Stmt}
 use Rattle.c_typed.specs.declared.stmt.Stmt.TheOpen.{Stmt-F}
 use Rattle.tac_ir.specs.declared.code.Instr.{Instr}
 use Rattle.tac_ir.specs.declared.code.BinOp.{BinOp}
-use Rattle.tac_ir.specs.declared.code.Place.{Place}
 use Rattle.tac_lower.specs.declared.draft.Ends.{Ends}
 use Rattle.tac_lower.specs.declared.plan.Plan.{Plan}
-use Rattle.tac_lower.specs.Parts.{Part, given, one, from_here, within, in_turn, ◌▷◌, ◌⨟◌}
-use Rattle.tac_lower.specs.Instrs.{draft, no_number, quiet, constant, get, load, set, store, computed, test, skip, jump, last_return, linked_return}
+use Rattle.tac_lower.specs.Parts.{Part, given, from_here, within, in_turn, ◌▷◌, ◌⨟◌}
+use Rattle.tac_lower.specs.Instrs.{quiet, constant, get, load, set, store, test, skip, jump, last_return, linked_return}
 use Rattle.tac_lower.specs.Values as values
 use Rattle.tac_lower.specs.Values.{Yield, Lowered, onward, expr, value, truth, object_of, difference, carried, struct_sizes}
 

@@ -242,10 +242,10 @@ impl Writer {
     ) -> Result<u32, Stop>
         ensures { (ends : Ends) → Emits (stmts.compound line (struct_sizes structs.now) op (expr (struct_sizes structs.now) target.now) (spec.constant line (pos 1))) ends self.old self.new result }
     {
-        let spot = self.expr(alloc, structs, line, target)?;
-        let old = self.old_value(alloc, line, &spot)?;
+        let place = self.expr(alloc, structs, line, target)?;
+        let old = self.old_value(alloc, line, &place)?;
         let b = self.constant(line, 1)?;
-        self.change(alloc, structs, line, op, &target.typing, spot, old, b)
+        self.change(alloc, structs, line, op, &target.typing, place, old, b)
     }
 
     /// An assignment.

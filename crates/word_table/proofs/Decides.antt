@@ -1,7 +1,7 @@
 -- What the words answer is what the run allows.
-use Rattle.std.proofs.Common.{◌≡◌, ℕ, ◌<◌, ◌≤◌, List, length, get_or, Bool, true, false, Option, Some, None, refl, arith, sym, ◌∙◌, ap, ⊎_elim}
+use Rattle.std.proofs.Common.{◌≡◌, ℕ, ◌<◌, ◌≤◌, List, length, get_or, Bool, true, false, Some, None, arith, sym, ◌∙◌, ap, ⊎_elim}
 use Rattle.std.specs.Prelude.{nat_lt, nat_le, ◌&&◌, not, slice_get, slice_index, if◌then◌else◌}
-use Rattle.std.proofs.lemmas.Bool.{cases_lt, lt-ltb, le-ltb, le-leb, lt-leb}
+use Rattle.std.proofs.lemmas.Bool.{cases_lt}
 use Rattle.std.proofs.lemmas.Option.{slice_get_past, slice_get-get_or}
 use Rattle.tac_ir.specs.declared.run.Answer.{Answer}
 use Rattle.tac_ir.specs.declared.run.Entry.{Entry}
@@ -9,7 +9,7 @@ use Rattle.tac_ir.specs.declared.run.Stop.{Stop}
 use Rattle.tac_ir.specs.Module.{Module}
 use Rattle.tac_ir.specs.Layout.{memory_words}
 use Rattle.tac_ir.specs.Last.{last_write}
-use Rattle.tac_ir.specs.Answers.{set_of, class_of, is_checked, is_allowed, read_answer, write_answer}
+use Rattle.tac_ir.specs.Answers.{class_of, is_checked, is_allowed, read_answer, write_answer}
 use Rattle.word_table.specs.Tables.{CanRun}
 use Rattle.word_table.specs.Words.{Words}
 use Rattle.word_table.specs.Holds.{HoldsAfter}

@@ -4,7 +4,6 @@ use Rattle.std.proofs.lemmas.List.Sums.{sum_by-cons}
 use Rattle.std.specs.Prelude.{nat_lt, slice_index, replicate, map, sum}
 use Rattle.std.proofs.lemmas.Bool.{cases_lt, le-ltb, lt-ltb}
 use Rattle.std.proofs.lemmas.List.{length-replicate, length-append, length-map, take_all, get_or_append_left, get_or-append_right, get_or_past, get_or-replicate, append_assoc}
-use Rattle.tac_ir.specs.declared.code.Code.{Code}
 use Rattle.tac_ir.specs.declared.code.Global.{Global}
 use Rattle.tac_ir.specs.Module.{Module}
 use Rattle.tac_ir.specs.Words.{word_of}

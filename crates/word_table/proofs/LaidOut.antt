@@ -1,6 +1,6 @@
 -- Code of a good form is laid out in few words.
-use Rattle.std.proofs.Common.{◌≡◌, ℕ, ◌+◌, ◌<◌, ◌≤◌, ◌^◌, List, [], ◌∷◌, ◌++◌, length, get_or, reverse, true, false, refl, arith, sym, ◌∙◌, ap, subst, Some}
-use Rattle.std.specs.Prelude.{nat_eq, nat_lt, ◌&&◌, slice_get}
+use Rattle.std.proofs.Common.{◌≡◌, ℕ, ◌<◌, ◌≤◌, ◌^◌, List, [], ◌∷◌, length, get_or, reverse, true, false, refl, arith, ◌∙◌, ap}
+use Rattle.std.specs.Prelude.{◌&&◌, slice_get}
 use Rattle.std.proofs.lemmas.Bool.{lt-ltb, eq-eqb}
 use Rattle.std.proofs.lemmas.List.{length-reverse}
 use Rattle.std.proofs.lemmas.Option.{slice_get-get_or}

@@ -1,5 +1,5 @@
 -- What a module's tables keep, so that a class in the place of a definition decides each read.
-use Rattle.std.specs.Prelude.{◌≡◌, ℕ, ◌≤◌, true, List, length, All}
+use Rattle.std.specs.Prelude.{◌≡◌, ℕ, ◌≤◌, true, length, All}
 use Rattle.tac_ir.specs.Module.{Module}
 use Rattle.tac_ir.specs.Numbers.{defs_in_code}
 use Rattle.tac_ir.specs.GoodForm.{GoodForm}

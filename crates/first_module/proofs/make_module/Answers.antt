@@ -1,7 +1,6 @@
 use Rattle.std.proofs.Common.{◌≡◌, length, false, replicate, sym, ap, subst, ◌∙◌}
 use Rattle.tac_ir.specs.declared.module.Size.{Size}
 use Rattle.tac_ir.specs.Module.{IsOrdered, Module}
-use Rattle.tac_ir.specs.Numbers.{defs_in_code}
 use Rattle.word_table.specs.Tables.{CanRun}
 use Rattle.first_module.specs.ClassesOf.{classes_of}
 use Rattle.first_module.specs.ModuleOf.{module_of}

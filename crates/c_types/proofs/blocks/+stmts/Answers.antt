@@ -2,11 +2,10 @@ use Rattle.std.proofs.Common.{rules, ap, arith, sym, subst, Ok, Err, ◌≡◌, 
 use Rattle.c_typed.specs.declared.fault.TypeFault.{TypeFault}
 use Rattle.c_types.specs.Steps.{Leaves}
 use Rattle.c_types.specs.StmtWalk as walk
-use Rattle.c_types.specs.ExprWalk.{expr_walk}
-use Rattle.c_types.proofs.WalkLaws.{as_walk, leaves_same, then_leaves, none_leaves}
-use Rattle.c_types.proofs.LeavesLaws.{told_leaves, first_told, then_told, as_told, never_told}
+use Rattle.c_types.proofs.WalkLaws.{as_walk, leaves_same, then_leaves}
+use Rattle.c_types.proofs.LeavesLaws.{told_leaves, first_told, then_told, as_told}
 use Rattle.c_types.proofs.WalkStmtLevels.{walk_block, walk_empty, walk_simple, walk_return, walk_break, walk_continue, walk_if, walk_while, walk_for, walk_par}
-use Rattle.c_types.proofs.StmtWeights.{weight, of_item, of_items, of_blocks, of_other, weight_block, weight_if, weight_while, weight_for, weight_par, item_within, block_within}
+use Rattle.c_types.proofs.StmtWeights.{weight, of_item, of_items, of_blocks, weight_block, weight_if, weight_while, weight_for, weight_par, item_within, block_within}
 use Rattle.c_types.proofs.blocks.+stmts.Goals as goal
 
 pub block_items-block_item-requires : goal.block_items-block_item-requires

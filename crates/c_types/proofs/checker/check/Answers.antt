@@ -1,8 +1,6 @@
 -- The walk's program is that of the tree, or its fault the first.
-use Rattle.std.proofs.Common.{rules, ◌≡◌, ◌≢◌, List, Result, Ok, Err, ap, sym, ◌∙◌, subst}
-use Rattle.dfi_base.specs.declared.numbers.Line.{Line}
+use Rattle.std.proofs.Common.{rules, ◌≡◌, ◌≢◌, Result, Ok, Err, sym, subst}
 use Rattle.c_ast.specs.Ast.{Ast, IsBuilt}
-use Rattle.c_ast.specs.declared.program.Item.{Item}
 use Rattle.c_typed.specs.declared.fault.TypeFault.{TypeFault}
 use Rattle.c_types.specs.declared.programs.Program.{Program}
 use Rattle.c_typed.specs.Typed.{Typed}

@@ -1,4 +1,4 @@
-use Rattle.std.proofs.Common.{◌≡◌, ◌∙◌}
+use Rattle.std.proofs.Common.{◌∙◌}
 use Rattle.core_rows.proofs.Sets.{is_ordered}
 use Rattle.core_rows.proofs.build.module_of.Goals as goal
 

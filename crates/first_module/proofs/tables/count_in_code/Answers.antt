@@ -1,4 +1,4 @@
-use Rattle.std.proofs.Common.{ℕ, List, ap, arith, length}
+use Rattle.std.proofs.Common.{List, ap, arith, length}
 use Rattle.tac_ir.specs.declared.code.Fun.{Fun}
 use Rattle.tac_ir.specs.Numbers.{new_read, numbers_in_funs}
 use Rattle.first_module.proofs.FormLemmas.{few-reads}

@@ -1,14 +1,13 @@
-use Rattle.std.proofs.Common.{◌≡◌, ℕ, Ok, Err, refl, sym, ap, subst, ◌∙◌, arith, Some, None, get_or, length, ◌+◌, ◌++◌, ◌∷◌, []}
+use Rattle.std.proofs.Common.{sym, ap, subst, ◌∙◌, arith, Some, None, ◌+◌, ◌++◌, ◌∷◌, []}
 use Rattle.std.specs.Prelude.{FitsSigned}
 use Rattle.std.proofs.Common.{w32}
 use mir.Facts.{to_z-of_z}
 use Rattle.number_lists.specs.declared.scan.State.{State}
 use Rattle.number_lists.specs.Lists.{int_of}
-use Rattle.number_lists.specs.Scanning.{Fits, int_form, int_value, step, ended, given, last}
+use Rattle.number_lists.specs.Scanning.{Fits, int_form, int_value, step, ended}
 use Rattle.number_lists.proofs.Forms.{ints_make, int_fits, ended_fits}
 use Rattle.number_lists.proofs.Turns.{GoesOn, one_turn, refused_turn, last_turn}
 use Rattle.number_lists.proofs.Few.{few_numbers}
-use Rattle.number_lists.proofs.Whole.{Reads}
 use Rattle.number_lists.proofs.lists.read_input.Goals as goal
 use Rattle.number_lists.proofs.lists.read_input.Goals.{in-Some-ended+in_ok-push, in_default-ended}
 

@@ -1,11 +1,10 @@
-use Rattle.std.proofs.Common.{◌≡◌, ℕ, Ok, Err, refl, sym, ap, subst, ◌∙◌, arith, Some, None, get_or, length, ◌+◌, ◌++◌, ◌∷◌, []}
+use Rattle.std.proofs.Common.{sym, ap, subst, ◌∙◌, arith, Some, None, ◌+◌, ◌++◌, ◌∷◌, []}
 use Rattle.number_lists.specs.declared.scan.State.{State}
 use Rattle.number_lists.specs.Lists.{name_of}
-use Rattle.number_lists.specs.Scanning.{Fits, name_form, name_value, step, ended, given, last}
+use Rattle.number_lists.specs.Scanning.{Fits, name_form, name_value, step, ended}
 use Rattle.number_lists.proofs.Forms.{names_make}
 use Rattle.number_lists.proofs.Turns.{GoesOn, one_turn, refused_turn, last_turn}
 use Rattle.number_lists.proofs.Few.{few_numbers}
-use Rattle.number_lists.proofs.Whole.{Reads}
 use Rattle.number_lists.proofs.lists.read_names.Goals as goal
 use Rattle.number_lists.proofs.lists.read_names.Goals.{in-Some-ended+in_ok-push, in_default-ended}
 

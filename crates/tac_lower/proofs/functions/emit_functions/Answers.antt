@@ -1,6 +1,4 @@
-use Rattle.std.proofs.Common.{◌≡◌, ℕ, ◌+◌, ◌≤◌, nat_eq, List, ◌∷◌, length, drop, Result, Err, ap, sym, ◌∙◌, subst}
-use Rattle.c_typed.specs.Typed.{Typed}
-use Rattle.c_typed.specs.declared.program.Function.{Function}
+use Rattle.std.proofs.Common.{◌≡◌, ◌+◌, ◌≤◌, nat_eq, ◌∷◌, length, drop, Err, ap, sym, ◌∙◌, subst}
 use Rattle.tac_lower.specs.Stmts.{around_by}
 use Rattle.tac_lower.specs.Functions.{function}
 use Rattle.tac_lower.specs.CodeOf.{sizes_of, first_numbers}

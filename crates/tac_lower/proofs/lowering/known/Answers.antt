@@ -1,4 +1,3 @@
-use Rattle.c_typed.specs.IsWell.{IsWell}
 use Rattle.tac_lower.proofs.lowering.known.Goals as goal
 
 pub returns : goal.returns

@@ -1,4 +1,4 @@
-use Rattle.std.proofs.Common.{◌≡◌, ◌-◌, arith, sym, ◌∙◌, ap}
+use Rattle.std.proofs.Common.{◌-◌, arith, sym, ◌∙◌, ap}
 use Rattle.std.specs.Prelude.{slice_get}
 use Rattle.word_table.proofs.Members.{class_found}
 use Rattle.word_table.proofs.classes.class_of.Goals as goal

@@ -1,4 +1,4 @@
-use Rattle.std.proofs.Common.{◌≡◌, ℕ, ◌++◌, refl, ap, ◌∙◌, arith}
+use Rattle.std.proofs.Common.{◌++◌, refl, ap, ◌∙◌, arith}
 use Rattle.tac_lower.specs.Stmts.{around_by}
 use Rattle.tac_lower.specs.Functions.{function, first_of, no_loop}
 use Rattle.tac_lower.proofs.progress.Progress.function.Goals as goal

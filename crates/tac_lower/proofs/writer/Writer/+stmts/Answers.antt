@@ -1,19 +1,18 @@
-use Rattle.std.proofs.Common.{length, rules, map, ◌≡◌, ℕ, ◌+◌, ◌<◌, ◌≤◌, drop, true, false, true≢false, add-zero, pos, Result, Ok, Err, Option, Some, None, option_map, refl, ap, sym, ◌∙◌, subst, arith}
-use Rattle.tac_ir.specs.declared.code.Instr.{Instr}
+use Rattle.std.proofs.Common.{length, rules, map, ◌≡◌, ℕ, ◌+◌, ◌<◌, ◌≤◌, true, false, add-zero, Ok, Err, option_map, refl, ap, sym, ◌∙◌, subst, arith}
 use Rattle.tac_lower.specs.declared.draft.Ends.{Ends}
 use Rattle.tac_lower.specs.Emits.{Emits, Counts}
 use Rattle.tac_lower.specs.Nested.{Forks, branch, closed, guarded, skipped}
-use Rattle.tac_lower.specs.Parts.{Part, in_turn, ◌▷◌, ◌⨟◌}
-use Rattle.tac_lower.specs.Instrs.{constant, jump, skip}
-use Rattle.tac_lower.specs.Values.{expr, value, struct_sizes}
-use Rattle.tac_lower.specs.Stmts.{around_by, stmt, assignment, compound, return, leaving, condition, guard, choice, turn, while, for, fork, branches, stop}
+use Rattle.tac_lower.specs.Parts.{in_turn, ◌⨟◌}
+use Rattle.tac_lower.specs.Instrs.{jump, skip}
+use Rattle.tac_lower.specs.Values.{value}
+use Rattle.tac_lower.specs.Stmts.{around_by, stmt, assignment, condition, guard, choice, turn, while, for, fork, branches, stop}
 use Rattle.tac_lower.proofs.Chains.{counted_stopped, too_long, dry_stopped}
 use Rattle.tac_lower.proofs.Gathers.{left_from}
 use Rattle.tac_lower.proofs.Follows.{next, halt, exactly, regroup, leaves_loop}
 use Rattle.tac_lower.proofs.StmtForms as form
 use Rattle.tac_lower.proofs.Turns.{next_item, no_item, no_more}
-use Rattle.tac_lower.proofs.Loops.{condition_steady, guard_steady, tested, untested, both_counted, while_turned, while_unturned, while_uncounted, while_body, while_rest, while_round, while_unrounded, for_turned, for_unturned, for_uncounted, for_step_uncounted, for_body, for_rest, for_round, for_unrounded}
-use Rattle.tac_lower.proofs.Forking.{fork_begun, fork_more, fork_done, fork_full, branch_full, forked, unforked}
+use Rattle.tac_lower.proofs.Loops.{condition_steady, guard_steady, tested, untested, both_counted, while_turned, while_unturned, while_uncounted, while_body, while_round, while_unrounded, for_turned, for_unturned, for_uncounted, for_step_uncounted, for_body, for_round, for_unrounded}
+use Rattle.tac_lower.proofs.Forking.{fork_more, fork_done, fork_full, branch_full, forked, unforked}
 use denote.Param.Weighed.{most, at_most, w_this}
 use Rattle.std.proofs.Common.{List, get_or}
 use Rattle.c_typed.proofs.stmt.Stmt.TheLaws.{the_size}

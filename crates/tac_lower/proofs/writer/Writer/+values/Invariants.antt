@@ -1,4 +1,4 @@
-use Rattle.std.proofs.Common.{◌≡◌, ℕ, List, [], drop, Result}
+use Rattle.std.proofs.Common.{ℕ, List, [], drop, Result}
 use Rattle.tac_lower.specs.declared.draft.Ends.{Ends}
 use Rattle.tac_lower.specs.declared.writer.Writer.{Writer}
 use Rattle.tac_lower.specs.declared.writer.Stop.{Stop}

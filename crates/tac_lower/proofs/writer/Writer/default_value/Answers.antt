@@ -1,7 +1,6 @@
-use Rattle.std.proofs.Common.{◌≡◌, ℕ, zero, suc, nat_lt, true, false, true≢false, pos, Option, Some, None, refl, sym, ◌∙◌, subst, ◌<◌, arith}
+use Rattle.std.proofs.Common.{◌≡◌, ℕ, zero, suc, nat_lt, true, false, true≢false, pos, Option, Some, None, refl, sym, ◌∙◌, subst, arith}
 use Rattle.std.proofs.lemmas.Bool.{lt-ltb}
 use Rattle.c_typed.specs.declared.types.ObjectType.{ObjectType}
-use Rattle.tac_lower.specs.Parts.{Part}
 use Rattle.tac_lower.specs.Instrs.{constant, null}
 use Rattle.tac_lower.specs.Functions.{default, default_by}
 use Rattle.tac_lower.specs.Drafted.{is_pointer}

@@ -1,14 +1,6 @@
-use Rattle.std.proofs.Common.{rules, ◌≡◌, ℕ, ℤ, pos, Result, Ok, Err, true, false, refl, ap, sym, ◌∙◌, subst}
-use Rattle.std.proofs.Math.Facts.{to_z-of_z}
-use Rattle.tac_ir.specs.declared.code.Instr.{Instr}
-use Rattle.tac_lower.specs.declared.draft.Ends.{Ends}
-use Rattle.tac_lower.specs.declared.plan.Plan.{Plan}
-use Rattle.tac_lower.specs.declared.writer.Spot.{Spot}
-use Rattle.tac_lower.specs.Parts.{given, ◌▷◌, ◌⨟◌}
+use Rattle.std.proofs.Common.{subst}
 use Rattle.tac_lower.specs.Instrs as spec
-use Rattle.tac_lower.specs.Emits.{Emits, Yields, spots, at_spot, part_at}
-use Rattle.tac_lower.specs.Values.{settled, object_of}
-use Rattle.tac_lower.proofs.Chains.{follow, stopped, leaves, nothing}
+use Rattle.tac_lower.specs.Emits.{Emits}
 use Rattle.tac_lower.proofs.writer.Writer.field.Goals as goal
 
 pub returns : goal.returns

@@ -1,4 +1,4 @@
-use Rattle.std.proofs.Common.{rules, ◌≡◌, ℕ, map, take, Result, Ok, Err, sym, subst}
+use Rattle.std.proofs.Common.{rules, ◌≡◌, map, take, Ok, Err, sym, subst}
 use Rattle.tac_lower.specs.Parts.{in_turn, ◌▷◌, ◌⨟◌}
 use Rattle.tac_lower.specs.Stmts.{around_by, stmt, returned}
 use Rattle.tac_lower.specs.Functions.{parameters_from, default, function, no_loop}

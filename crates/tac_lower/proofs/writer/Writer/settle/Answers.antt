@@ -1,10 +1,9 @@
-use Rattle.std.proofs.Common.{rules, ◌≡◌, ℕ, ℤ, pos, Result, Ok, Err, true, false, refl, ap, sym, ◌∙◌, subst}
-use Rattle.tac_lower.specs.declared.draft.Ends.{Ends}
-use Rattle.tac_lower.specs.Parts.{given, ◌▷◌, ◌⨟◌}
+use Rattle.std.proofs.Common.{rules, ◌≡◌, pos, Err, refl, sym, subst}
+use Rattle.tac_lower.specs.Parts.{◌▷◌, ◌⨟◌}
 use Rattle.tac_lower.specs.Instrs.{test, constant, skip, zero_again}
 use Rattle.tac_lower.specs.Emits.{Emits}
 use Rattle.tac_lower.specs.Values.{settled}
-use Rattle.tac_lower.proofs.Chains.{follow, stopped, nothing}
+use Rattle.tac_lower.proofs.Chains.{follow, stopped}
 use Rattle.tac_lower.proofs.writer.Writer.settle.Goals as goal
 
 pub returns-in_err-test : goal.returns-in_err-test

@@ -1,4 +1,4 @@
-use Rattle.std.proofs.Common.{◌≡◌, ◌∙◌, ap}
+use Rattle.std.proofs.Common.{◌∙◌, ap}
 use Rattle.word_table.specs.Deciding.{decided}
 use Rattle.word_table.proofs.Members.{short}
 use Rattle.word_table.proofs.Decides.{reads}

@@ -1,4 +1,4 @@
-use Rattle.std.proofs.Common.{◌≡◌, ◌∷◌, ◌∙◌, ap, sym, subst}
+use Rattle.std.proofs.Common.{◌∷◌, ◌∙◌, ap, sym, subst}
 use Rattle.tac_ir.specs.Answers.{class_of}
 use Rattle.word_table.specs.Holds.{HoldsAfter}
 use Rattle.word_table.specs.Deciding.{written}

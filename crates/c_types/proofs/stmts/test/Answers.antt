@@ -5,7 +5,7 @@ use Rattle.c_types.specs.Steps.{kept, Finds}
 use Rattle.c_types.specs.ExprWalk.{expr_walk, value}
 use Rattle.c_types.proofs.WalkLevels.{walk_line}
 use Rattle.c_types.proofs.WalkLaws.{then_finds}
-use Rattle.c_types.proofs.stmts.condition.Goals as goal
+use Rattle.c_types.proofs.stmts.test.Goals as goal
 
 pub returns : goal.returns
 returns c =
