@@ -14,7 +14,7 @@ use Rattle.c_ast.specs.declared.decl.Params.{Params}
 use Rattle.c_ast.specs.declared.decl.ProtoParams.{ProtoParams}
 use Rattle.c_ast.specs.declared.expr.Expr.{Expr}
 use Rattle.c_ast.specs.declared.expr.Expr.{fold-Expr}
-use Rattle.c_ast.specs.declared.expr.Form.TheOpen.{Form-F, Expr-F}
+use Rattle.c_ast.specs.declared.expr.Form.TheOpen.{Form-F}
 use Rattle.c_ast.specs.declared.stmt.Simple.{Simple}
 use Rattle.c_ast.specs.declared.stmt.ForStart.{ForStart}
 use Rattle.c_ast.specs.declared.stmt.Block.{Block}

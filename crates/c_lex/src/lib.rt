@@ -19,6 +19,3 @@ pub use law::{comment_is_space, one_meaning};
 pub use lexed::Lexed;
 pub use lexer::{lex, newlines};
 pub use token::{Kind, Mark, Token, Word};
-
-#[cfg(test)]
-mod tests;

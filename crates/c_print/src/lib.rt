@@ -17,6 +17,3 @@ mod types;
 
 pub use law::{keeps_tokens, keeps_tree, no_spare_parens, one_text, parse_gives_trees, reads_back};
 pub use text::print;
-
-#[cfg(test)]
-mod tests;

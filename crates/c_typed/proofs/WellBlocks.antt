@@ -1,5 +1,5 @@
 -- Every statement is well-formed.
-use Rattle.std.proofs.Common.{◌≡◌, ℕ, suc, ◌+◌, ◌<◌, ◌≤◌, Bool, true, false, ◌&&◌, List, [], ◌∷◌, ◌++◌, map, length, Option, Some, None, refl, ap, sym, ◌∙◌, subst, arith}
+use Rattle.std.proofs.Common.{◌≡◌, ℕ, suc, ◌≤◌, Bool, true, false, ◌&&◌, List, [], ◌∷◌, ◌++◌, map, length, Option, Some, None, refl, ap, sym, ◌∙◌, subst, arith}
 use Rattle.std.specs.Prelude.{nat_le}
 use Rattle.std.proofs.lemmas.Bool.Decides.{nat_tests}
 use Rattle.dfi_base.specs.declared.numbers.Line.{Line}
@@ -13,23 +13,20 @@ use Rattle.c_typed.specs.declared.stmt.Branch.{Branch}
 use Rattle.c_typed.specs.declared.stmt.Stmt.{Stmt, roll-Stmt}
 use Rattle.c_typed.specs.declared.stmt.Stmt.TheOpen.{Stmt-F}
 use Rattle.c_typed.specs.Types.{declared_type, fits}
-use Rattle.c_typed.specs.Marks.{Mark, History, opens, closes, block, branch, in_branch, result_at}
+use Rattle.c_typed.specs.Marks.{Mark, History, opens, closes, block, branch}
 use Rattle.c_typed.specs.Whole.{Whole}
 use Rattle.c_typed.specs.Faults.{unless, branches}
-use Rattle.c_typed.specs.Parts.{Part, marked, tokens, given, mark, with_faults, separated, in_turn, ◌⊗◌, ◌<⊗◌, ◌⊗>◌, ◌<$>◌}
+use Rattle.c_typed.specs.Parts.{Part, marked, tokens, given, mark, with_faults, separated, in_turn, ◌<⊗◌, ◌⊗>◌, ◌<$>◌}
 use Rattle.c_typed.specs.Tags.{base}
-use Rattle.c_typed.specs.Exprs.{value}
 use Rattle.c_typed.specs.Decls as decls
 use Rattle.c_typed.specs.Decls.{local_item, local_decl, joined_lists}
 use Rattle.c_typed.specs.Stmts.{returns, block_item, body, branch_of}
 use Rattle.c_typed.specs.IsWell.{Context, Round, in_branch_of, IsExpr, IsReturned, Placed, placed, in_branches, IsStmt, AreStmts}
-use Rattle.c_typed.proofs.Levels.{items_of, first_items, stmt_roll}
-use Rattle.c_typed.proofs.Quiet.{no_marks}
 use Rattle.c_typed.proofs.Balanced.{Balanced}
-use Rattle.c_typed.proofs.WellParts.{none_some, some_is, pure_given, pure_tokens, pure_map, pure_joined}
+use Rattle.c_typed.proofs.WellParts.{none_some, some_is, pure_given}
 use Rattle.c_typed.proofs.WellTypes.{IsLinked}
 use Rattle.c_typed.proofs.WellExprs.{sound_base}
-use Rattle.c_typed.proofs.WellStmts.{Sound, round, round_behind, unless_none, sound_of, sound_tokens, sound_mark, sound_joined, sound_map, sound_with, stmt_made, are_append, value_pure, Anywhere, AreHere, AreAnywhere, sound_valued}
+use Rattle.c_typed.proofs.WellStmts.{Sound, round, round_behind, unless_none, sound_of, sound_tokens, sound_mark, sound_joined, sound_map, sound_with, stmt_made, are_append, Anywhere, AreHere, AreAnywhere, sound_valued}
 
 both_true_first : (a b : Bool) → a && b ≡ true → a ≡ true
 both_true_first true b e = refl

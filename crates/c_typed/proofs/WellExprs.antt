@@ -13,17 +13,15 @@ use Rattle.c_typed.specs.declared.types.ExprType.{ExprType}
 use Rattle.c_typed.specs.declared.expr.PrefixOp.{PrefixOp}
 use Rattle.c_typed.specs.declared.expr.Expr.{Expr}
 use Rattle.c_typed.specs.declared.expr.Form.TheOpen.{Form-F}
-use Rattle.c_typed.specs.declared.program.Struct.{Struct}
 use Rattle.c_typed.specs.Types.{place_of, base_type, named_type, is_truth}
-use Rattle.c_typed.specs.Marks.{History, has_tag}
+use Rattle.c_typed.specs.Marks.{History}
 use Rattle.c_typed.specs.Whole.{Whole}
 use Rattle.c_typed.specs.Faults.{unknown, mismatch, not_lvalue}
-use Rattle.c_typed.specs.Parts.{Place, Part, tokens, obeys, ◌⊗◌, ◌<⊗◌, ◌⊗>◌}
+use Rattle.c_typed.specs.Parts.{Part, tokens, obeys, ◌<⊗◌, ◌⊗>◌}
 use Rattle.c_typed.specs.Tags.{base, type_name, is_tag, known_tag}
 use Rattle.c_typed.specs.Exprs
 use Rattle.c_typed.specs.Exprs.{made, Size, Reading, value, place, operands, value_by_type, place_by_type, of_ints, of_sum, of_difference, binary_type, binary, int_prefix, plus, pointed_at, address_by, address, unary, item_at, struct_by, struct_of, struct_at, struct_behind, with_struct}
 use Rattle.c_typed.specs.IsWell.{IsBase, IsObject, IsTyping, Context, IsExpr, IsPrefix}
-use Rattle.c_typed.proofs.Quiet.{quiet_base, quiet_type_name}
 use Rattle.c_typed.proofs.WellParts.{none_some, some_is, Stands, Pure, pure_tokens, pure_joined, pure_map, pure_obeys}
 use Rattle.c_typed.proofs.WellTypes.{IsLinked, item_object, typing_of, made_known, one, two, place_object, pointer_object, value_known}
 

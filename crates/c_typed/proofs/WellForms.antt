@@ -1,6 +1,6 @@
 -- Fields, names and calls, and so every expression.
 use Rattle.std.proofs.Common.{◌≡◌, ◌≢◌, ℕ, zero, suc, ◌+◌, ◌<◌, Bool, true, false, ◌&&◌, List, [], ◌∷◌, map, length, get_or, Option, Some, None, refl, ap, sym, ◌∙◌, subst, arith}
-use Rattle.std.specs.Prelude.{slice_get, nat_eq, nat_lt, option_map}
+use Rattle.std.specs.Prelude.{slice_get, nat_eq, option_map}
 use Rattle.std.proofs.lemmas.Bool.Decides.{nat_tests}
 use Rattle.std.proofs.lemmas.Option.{slice_get-map}
 use Rattle.dfi_base.specs.declared.numbers.Line.{Line}
@@ -15,14 +15,12 @@ use Rattle.c_typed.specs.declared.types.ObjectType.{ObjectType}
 use Rattle.c_typed.specs.declared.types.ExprType.{ExprType}
 use Rattle.c_typed.specs.declared.expr.Expr.{Expr}
 use Rattle.c_typed.specs.declared.expr.Form.TheOpen.{Form-F}
-use Rattle.c_typed.specs.declared.program.Struct.{Struct}
 use Rattle.c_typed.specs.Types.{place_of, scalar_type, scalar_by, fits}
 use Rattle.c_typed.specs.Marks.{History, Variable, variable}
 use Rattle.c_typed.specs.Whole.{Whole, Signature, Builtin, Meaning, meaning, is_main, builtin_of, spelling}
 use Rattle.c_typed.specs.Faults.{Fault, unknown, mismatch}
 use Rattle.c_typed.specs.Parts.{Place, Part, tokens, given, obeys, refused, ◌⊗◌, ◌<⊗◌, ◌⊗>◌}
 use Rattle.c_typed.specs.Tags.{type_name}
-use Rattle.c_typed.specs.Exprs
 use Rattle.c_typed.specs.Exprs.{Layer, made, Size, Reading, value, many_of, one_of, struct_by, struct_of, struct_at, struct_behind, with_struct, field_by, field_of, fielded, found_by, name, name_as, all_fit, called_type, applied, asked, put_by, put, freed_by, freed, allocated, arguments, called, allocation_by, allocation, call_as, call, is_malloc, cast_by, counted_by, product, form_step, expr}
 use Rattle.c_typed.specs.Programs.{main_in}
 use Rattle.c_typed.specs.Scopes.{scopes_of}
@@ -30,8 +28,8 @@ use Rattle.c_typed.specs.IsWell.{IsBase, IsObject, IsTyping, Context, IsField, I
 use Rattle.c_typed.proofs.Levels.{mapped_form, read_form, form_roll, expr_reads}
 use Rattle.c_typed.proofs.ScopeLaws.{variable_found}
 use Rattle.c_typed.proofs.WellParts.{none_some, some_is, IsBound, found_bound, Pure, pure_tokens, pure_given, pure_joined, pure_map, pure_obeys, pure_refused}
-use Rattle.c_typed.proofs.WellTypes.{IsLinked, item_object, scalar_typing, typing_of, made_known, one, place_object, pointer_object, field_there}
-use Rattle.c_typed.proofs.WellExprs.{IfPure, IsExprThere, IsSize, IsSound, plainly, sound_value, sound_place, sound_operands, sound_binary, sound_unary, sound_index, sound_type_name}
+use Rattle.c_typed.proofs.WellTypes.{IsLinked, scalar_typing, made_known, one, place_object, pointer_object, field_there}
+use Rattle.c_typed.proofs.WellExprs.{IfPure, IsExprThere, IsSize, IsSound, plainly, sound_value, sound_binary, sound_unary, sound_index, sound_type_name}
 
 -- The function of a name.
 found_name : (x m : ℕ) (ms : List ℕ) (y : ℕ) (t : Bool) → nat_eq x m ≡ t → (slice_get ms (place_of x ms) ≡ Some y → y ≡ x)

@@ -1,8 +1,7 @@
 -- A function that breaks no rule is well-formed, where the tables of its program are.
-use Rattle.std.proofs.Common.{◌≡◌, ℕ, suc, ◌+◌, ◌<◌, ◌≤◌, Bool, true, false, ◌&&◌, ◌||◌, not, List, [], ◌∷◌, ◌++◌, map, take, length, get_or, Option, Some, refl, ap, sym, ◌∙◌, subst, arith}
-use Rattle.std.specs.Prelude.{slice_get, nat_eq, nat_le, nat_lt, All}
+use Rattle.std.proofs.Common.{◌≡◌, ℕ, suc, ◌<◌, ◌≤◌, Bool, true, false, ◌&&◌, ◌||◌, not, List, [], ◌∷◌, ◌++◌, map, take, length, get_or, Option, Some, refl, ap, sym, ◌∙◌, subst, arith}
+use Rattle.std.specs.Prelude.{slice_get, nat_eq, nat_lt, All}
 use Rattle.std.proofs.lemmas.List.{append-nil}
-use Rattle.c_ast.specs.LineOf.{line_of_base}
 use Rattle.c_ast.specs.declared.decl.Param.{Param}
 use Rattle.c_ast.specs.declared.decl.Params.{Params}
 use Rattle.c_ast.specs.declared.decl.ResultType.{ResultType}
@@ -12,7 +11,7 @@ use Rattle.c_typed.specs.declared.types.ObjectType.{ObjectType}
 use Rattle.c_typed.specs.declared.stmt.Stmt.{Stmt}
 use Rattle.c_typed.specs.declared.program.Struct.{Struct}
 use Rattle.c_typed.specs.declared.program.Function.{Function}
-use Rattle.c_typed.specs.Types.{result_type, parameter_stars, base_type}
+use Rattle.c_typed.specs.Types.{result_type, base_type}
 use Rattle.c_typed.specs.Marks as marks
 use Rattle.c_typed.specs.Marks.{Mark, closes, function, History, frame_words}
 use Rattle.c_typed.specs.Whole.{Whole, Signature, parameter_type, parameter_types, is_main}
@@ -34,7 +33,7 @@ use Rattle.c_typed.proofs.WellParts.{Stands, Kept, AllScopes, kept_first, kept_s
 use Rattle.c_typed.proofs.WellTypes.{IsLinked}
 use Rattle.c_typed.proofs.WellStmts.{round, round_behind, unless_none}
 use Rattle.c_typed.proofs.WellLevels.{body_sound}
-use Rattle.c_typed.proofs.WellMarks.{IsShaped, Tagged, Declared, declared_append, tagged_behind, declares_parameters, function_body_declares, base_known, scalar_words, false_true}
+use Rattle.c_typed.proofs.WellMarks.{IsShaped, Tagged, Declared, declared_append, tagged_behind, declares_parameters, function_body_declares, base_known, scalar_words}
 use Rattle.c_typed.proofs.WellFunctions
 
 -- The tables of a program.

@@ -1,6 +1,6 @@
 -- A function that breaks no rule is well-formed.
-use Rattle.std.proofs.Common.{◌≡◌, ℕ, zero, suc, ◌+◌, ◌≤◌, List, [], ◌∷◌, ◌++◌, map, length, get_or, Some, refl, ap, sym, ◌∙◌, subst, arith}
-use Rattle.std.specs.Prelude.{slice_get, slice_index_or, nat_eq, nat_le, All}
+use Rattle.std.proofs.Common.{◌≡◌, ℕ, zero, suc, ◌+◌, ◌≤◌, List, [], ◌∷◌, ◌++◌, map, length, Some, refl, ap, sym, ◌∙◌, subst, arith}
+use Rattle.std.specs.Prelude.{slice_get, slice_index_or, nat_eq, All}
 use Rattle.std.proofs.lemmas.Option.{slice_get-get_or}
 use Rattle.std.proofs.lemmas.List.{append_assoc}
 use Rattle.c_ast.specs.declared.decl.Param.{Param}
@@ -8,20 +8,17 @@ use Rattle.c_ast.specs.declared.decl.Params.{Params}
 use Rattle.c_typed.specs.declared.types.ObjectType.{ObjectType}
 use Rattle.c_typed.specs.declared.program.Struct.{Struct}
 use Rattle.c_typed.specs.Types.{words_of}
-use Rattle.c_typed.specs.Marks as marks
 use Rattle.c_typed.specs.Marks.{Mark, local, opens, closes, History, locals_in, frame_words}
 use Rattle.c_typed.specs.Whole.{Whole, parameter_type, parameter_types}
 use Rattle.c_typed.specs.Parts.{marked}
-use Rattle.c_typed.specs.Decls as decls
-use Rattle.c_typed.specs.Decls.{type_limit, frame_limit, parameter}
+use Rattle.c_typed.specs.Decls.{frame_limit, parameter}
 use Rattle.c_typed.specs.Programs as programs
 use Rattle.c_typed.specs.Programs.{variables_in, parameters}
-use Rattle.c_typed.specs.IsWell.{IsObject, sizes_in, Context, words_in, objects_of}
-use Rattle.c_typed.proofs.Quiet.{quiet_base, no_marks}
-use Rattle.c_typed.proofs.Balanced.{Balanced, marked_append}
-use Rattle.c_typed.proofs.BalancedStmts.{balanced_parameters}
+use Rattle.c_typed.specs.IsWell.{IsObject, Context, words_in, objects_of}
+use Rattle.c_typed.proofs.Quiet.{quiet_base}
+use Rattle.c_typed.proofs.Balanced.{Balanced}
 use Rattle.c_typed.proofs.WellParts.{Kept, some_is, none_some}
-use Rattle.c_typed.proofs.WellMarks.{IsShaped, Declared, base_known}
+use Rattle.c_typed.proofs.WellMarks.{IsShaped, Declared}
 
 -- Marks inside a function.
 abbrev pub Inner : List Mark → Type 0

@@ -1,5 +1,5 @@
 -- The globals of a program that breaks no rule are well-formed, and few words together.
-use Rattle.std.proofs.Common.{◌≡◌, ◌+◌, ◌<◌, ◌≤◌, ℤ, pos, Bool, true, false, ◌&&◌, not, List, [], ◌∷◌, ◌++◌, map, Option, Some, None, refl, ap, sym, ◌∙◌, subst, arith}
+use Rattle.std.proofs.Common.{◌≡◌, ◌+◌, ◌≤◌, ℤ, pos, Bool, true, false, ◌&&◌, not, List, [], ◌∷◌, ◌++◌, map, Option, Some, None, refl, ap, sym, ◌∙◌, subst, arith}
 use Rattle.std.specs.Prelude.{nat_le, is_some}
 use Rattle.c_ast.specs.declared.decl.Base.{Base}
 use Rattle.c_ast.specs.declared.decl.DeclItem.{DeclItem}
@@ -12,21 +12,19 @@ use Rattle.c_typed.specs.declared.types.ExprType.{ExprType}
 use Rattle.c_typed.specs.declared.program.Struct.{Struct}
 use Rattle.c_typed.specs.declared.program.Global.{Global}
 use Rattle.c_typed.specs.Types.{base_type, declared_type, scalar_type, words_of}
-use Rattle.c_typed.specs.Marks as marks
 use Rattle.c_typed.specs.Marks.{Mark, global, History, global_words}
 use Rattle.c_typed.specs.Whole.{Whole, is_main}
 use Rattle.c_typed.specs.Faults as faults
 use Rattle.c_typed.specs.Faults.{unless}
 use Rattle.c_typed.specs.Parts.{Place, marked, behind, tokens, separated, ◌<⊗◌}
-use Rattle.c_typed.specs.Tags.{base}
 use Rattle.c_typed.specs.Decls as decls
 use Rattle.c_typed.specs.Decls.{has_items, type_limit, joined_lists}
 use Rattle.c_typed.specs.Programs as programs
 use Rattle.c_typed.specs.Programs.{global_item, global_decl, global_limit, global_faults, start_of, start_by, null_of, started}
-use Rattle.c_typed.specs.IsWell.{IsBase, IsObject, IsGlobal, is_int, words_in, sizes_in}
+use Rattle.c_typed.specs.IsWell.{IsBase, IsObject, IsGlobal, words_in}
 use Rattle.c_typed.proofs.WellParts.{none_first, none_second, none_some, some_is}
 use Rattle.c_typed.proofs.WellStmts.{unless_none}
-use Rattle.c_typed.proofs.WellMarks.{IsShaped, base_known, lengths_all, le_when, false_true}
+use Rattle.c_typed.proofs.WellMarks.{IsShaped, lengths_all, le_when, false_true}
 use Rattle.c_typed.proofs.WellFunctions.{AllOf}
 
 both_first : (a b : Bool) → a && b ≡ true → a ≡ true

@@ -1,9 +1,8 @@
 -- The items of a program in turn: what stands before each, and that each function is well-formed.
-use Rattle.std.proofs.Common.{◌≡◌, ℕ, suc, ◌+◌, ◌<◌, true, false, List, [], ◌∷◌, ◌++◌, map, length, Some, refl, ap, sym, ◌∙◌, subst}
-use Rattle.std.specs.Prelude.{slice_get, is_some}
+use Rattle.std.proofs.Common.{◌≡◌, ℕ, suc, ◌<◌, true, false, List, [], ◌∷◌, ◌++◌, map, length, Some, refl, ap, sym, ◌∙◌, subst}
+use Rattle.std.specs.Prelude.{slice_get}
 use Rattle.std.proofs.lemmas.List.{append-nil, append_assoc}
 use Rattle.c_ast.specs.declared.decl.Base.{Base}
-use Rattle.c_ast.specs.declared.decl.Decl.{Decl}
 use Rattle.c_ast.specs.declared.decl.DeclItem.{DeclItem}
 use Rattle.c_ast.specs.declared.program.StructDef.{StructDef}
 use Rattle.c_ast.specs.declared.program.Function.{Function as SourceFunction}
@@ -20,12 +19,12 @@ use Rattle.c_typed.specs.Decls.{fields, joined_lists}
 use Rattle.c_typed.specs.Programs as programs
 use Rattle.c_typed.specs.Programs.{struct, global_decl, function_text, proto, proto_parameters, item}
 use Rattle.c_typed.specs.Typed.{Typed}
-use Rattle.c_typed.specs.IsWell.{objects_of, IsFunction}
+use Rattle.c_typed.specs.IsWell.{IsFunction}
 use Rattle.c_typed.proofs.Balanced.{Balanced, marked_append, unchanged, globals_outside}
 use Rattle.c_typed.proofs.BalancedStmts.{join, balanced_parameters, balanced_function_body}
-use Rattle.c_typed.proofs.WellParts.{none_first, none_second, both_are, changed_is, some_is, none_some}
+use Rattle.c_typed.proofs.WellParts.{none_first, none_second, both_are, changed_is, some_is}
 use Rattle.c_typed.proofs.WellFunctions.{AllOf, all_append}
-use Rattle.c_typed.proofs.WellFunction.{IsTabled, IsOuter, quiet_result, typed_function, objects_are, function_well}
+use Rattle.c_typed.proofs.WellFunction.{IsTabled, IsOuter, quiet_result, typed_function, function_well}
 use Rattle.c_typed.proofs.WellOuter.{all_fields, globals_fields, function_marks, balanced_proto_parameters, decl_globals, outer_struct, outer_function, outer_proto, outer_global}
 
 -- the types of the globals of an item

@@ -14,16 +14,16 @@ use Rattle.c_typed.specs.declared.stmt.Stmt.TheOpen.{Stmt-F}
 use Rattle.c_typed.specs.Marks.{Mark, History, opens, closes, loop, around, in_loop, in_branch, result_at}
 use Rattle.c_typed.specs.Whole.{Whole}
 use Rattle.c_typed.specs.Faults.{mismatch, escape, unless}
-use Rattle.c_typed.specs.Parts.{Part, marked, tokens, given, mark, obeys, if_there, ◌⊗◌, ◌<⊗◌, ◌⊗>◌, ◌<$>◌}
+use Rattle.c_typed.specs.Parts.{Part, marked, tokens, given, mark, obeys, ◌⊗◌, ◌<⊗◌, ◌⊗>◌, ◌<$>◌}
 use Rattle.c_typed.specs.Decls.{local_decl}
 use Rattle.c_typed.specs.Stmts.{Layer, condition, simple, returns, value_there, value_of, condition_there, within_loop, empty, block_item, branch_of, start, step, second, stmt_step, stmt}
 use Rattle.c_typed.specs.Programs.{with_part, function_body}
 use Rattle.c_typed.specs.IsWell.{Context, Round, in_loop_of, out_of_loop, IsCondition, IsConditionThere, stmt_there, IsStmt, AreStmts}
 use Rattle.c_typed.proofs.Levels.{items_of, blocks_of, first_items, mapped, stmt_roll}
-use Rattle.c_typed.proofs.Quiet.{quiet, no_marks}
+use Rattle.c_typed.proofs.Quiet.{quiet}
 use Rattle.c_typed.proofs.Balanced.{Balanced}
 use Rattle.c_typed.proofs.BalancedStmts.{balanced_quiet, join, balanced_local_decl, balanced_start, balanced_stmt, quiet_condition_there, quiet_step}
-use Rattle.c_typed.proofs.WellParts.{some_is, Pure, pure_given, pure_tokens, pure_map, pure_joined}
+use Rattle.c_typed.proofs.WellParts.{Pure, pure_given, pure_tokens, pure_map, pure_joined}
 use Rattle.c_typed.proofs.WellTypes.{IsLinked}
 use Rattle.c_typed.proofs.WellStmts.{Sound, round, unless_none, not_true, sound_of, sound_tokens, sound_mark, sound_joined, sound_map, sound_obeys, sound_with, stmt_made, empty_known, value_pure, condition_pure, Anywhere, simple_pure, AreHere}
 use Rattle.c_typed.proofs.WellBlocks.{IsHere, here_before, sound_here, sound_local_decl, AllWell, AllBranches, sound_body, sound_block, sound_branch, sound_par, returned_known, IfExpr}

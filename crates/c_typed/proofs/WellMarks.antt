@@ -11,7 +11,6 @@ use Rattle.c_ast.specs.declared.decl.Decl.{Decl}
 use Rattle.c_ast.specs.declared.decl.Param.{Param}
 use Rattle.c_ast.specs.declared.decl.Params.{Params}
 use Rattle.c_ast.specs.declared.expr.Expr.{Expr as SourceExpr}
-use Rattle.c_ast.specs.declared.stmt.Simple.{Simple}
 use Rattle.c_ast.specs.declared.stmt.ForStart.{ForStart}
 use Rattle.c_ast.specs.declared.stmt.Block.{Block}
 use Rattle.c_ast.specs.declared.stmt.BlockItem.{BlockItem}
@@ -20,8 +19,7 @@ use Rattle.c_ast.specs.declared.stmt.Stmt.TheOpen.{Stmt-F as Source}
 use Rattle.c_typed.specs.declared.types.BaseType.{BaseType}
 use Rattle.c_typed.specs.declared.stmt.Stmt.{Stmt}
 use Rattle.c_typed.specs.declared.program.Struct.{Struct}
-use Rattle.c_typed.specs.Types as types
-use Rattle.c_typed.specs.Types.{place_of, base_type, declared_type, pointers_to, parameter_stars, scalar_type, words_of, item_words}
+use Rattle.c_typed.specs.Types.{place_of, base_type, declared_type, pointers_to, parameter_stars, words_of}
 use Rattle.c_ast.specs.LineOf.{line_of_base}
 use Rattle.c_typed.specs.declared.fault.BigWhat.{BigWhat}
 use Rattle.c_typed.specs.Marks
@@ -30,17 +28,17 @@ use Rattle.c_typed.specs.Whole.{Whole}
 use Rattle.c_typed.specs.Faults
 use Rattle.c_typed.specs.Faults.{Rule, Fault, unknown, unless}
 use Rattle.c_typed.specs.Parts.{Place, Part, marked, tokens, given, mark, joined, behind, kept_by, obeys, with_faults, separated, in_turn, ◌⊗◌, ◌<⊗◌, ◌⊗>◌, ◌<$>◌}
-use Rattle.c_typed.specs.Tags.{base, is_tag, known_tag}
+use Rattle.c_typed.specs.Tags.{base, is_tag}
 use Rattle.c_typed.specs.Exprs.{expr, value}
 use Rattle.c_typed.specs.Decls as decls
 use Rattle.c_typed.specs.Decls.{has_items, type_limit, frame_limit, is_scalar, declared, valued, local_item, local_decl, parameter_base, parameter}
-use Rattle.c_typed.specs.Stmts.{condition, value_there, condition_there, block_item, body, branch_of, start, step, stmt_step, stmt}
+use Rattle.c_typed.specs.Stmts.{condition, condition_there, block_item, body, branch_of, start, step, stmt_step, stmt}
 use Rattle.c_typed.specs.Programs.{with_part, function_body, parameters}
 use Rattle.c_typed.specs.IsWell.{IsBase, IsObject, sizes_in}
 use Rattle.c_typed.proofs.Levels.{items_of, blocks_of, first_items, mapped, stmt_roll}
 use Rattle.c_typed.proofs.Quiet.{quiet, quiet_base, no_marks}
 use Rattle.c_typed.proofs.Balanced.{Balanced, marked_append, unchanged, tags_outside}
-use Rattle.c_typed.proofs.BalancedStmts.{balanced_quiet, join, balanced_local_item, balanced_local_decl, balanced_parameter, balanced_start, balanced_stmt, balanced_in_turn, balanced_separated, all_balanced, quiet_simple, quiet_condition_there, quiet_value_there, quiet_step}
+use Rattle.c_typed.proofs.BalancedStmts.{balanced_quiet, join, balanced_local_item, balanced_parameter, balanced_separated, all_balanced, quiet_simple, quiet_condition_there, quiet_value_there, quiet_step}
 use Rattle.c_typed.proofs.WellParts.{none_each, none_first, none_second, ruled_faults}
 use Rattle.c_typed.proofs.WellStmts.{unless_none}
 

@@ -1,6 +1,6 @@
 -- What stands before an item of a program, behind each kind of item.
-use Rattle.std.proofs.Common.{◌≡◌, ℕ, ◌+◌, ◌<◌, Bool, true, false, ◌||◌, List, [], ◌∷◌, ◌++◌, map, length, Option, Some, None, refl, ap, sym, ◌∙◌, subst, arith}
-use Rattle.std.specs.Prelude.{slice_get, nat_eq, nat_le, nat_lt}
+use Rattle.std.proofs.Common.{◌≡◌, ℕ, ◌<◌, Bool, true, false, ◌||◌, List, [], ◌∷◌, ◌++◌, map, length, Option, Some, None, refl, ap, sym, ◌∙◌, subst, arith}
+use Rattle.std.specs.Prelude.{slice_get, nat_eq}
 use Rattle.std.proofs.lemmas.List.{append-nil, append_assoc}
 use Rattle.std.proofs.lemmas.Bool.Decides.{nat_tests}
 use Rattle.c_ast.specs.declared.ident.Ident.{Ident}
@@ -27,8 +27,8 @@ use Rattle.c_typed.specs.Programs as programs
 use Rattle.c_typed.specs.Programs.{struct, global_item, global_decl, function_text, proto, proto_parameters}
 use Rattle.c_typed.specs.Typed.{Typed}
 use Rattle.c_typed.specs.IsWell.{Context}
-use Rattle.c_typed.proofs.Quiet.{quiet_base, no_marks}
-use Rattle.c_typed.proofs.Balanced.{Balanced, variable, marked_append, unchanged, left_behind, tags_outside, globals_outside, functions_outside}
+use Rattle.c_typed.proofs.Quiet.{quiet_base}
+use Rattle.c_typed.proofs.Balanced.{Balanced, variable, marked_append, unchanged, left_behind, tags_outside}
 use Rattle.c_typed.proofs.BalancedStmts.{balanced_quiet, join, balanced_separated, all_balanced, balanced_parameters, balanced_function_body}
 use Rattle.c_typed.proofs.WellParts.{AllScopes}
 use Rattle.c_typed.proofs.WellMarks.{Tagged}

@@ -13,8 +13,8 @@ use Rattle.c_typed.specs.Decls.{type_limit}
 use Rattle.c_typed.specs.Programs.{struct_by, text, judged, main_number, faults_of, typed_of}
 use Rattle.c_typed.specs.Typed.{Typed}
 use Rattle.c_typed.specs.Checks.{IsTyped}
-use Rattle.c_typed.specs.IsWell.{IsObject, IsStruct, IsGlobal, IsFunction, IsWell, sizes_in, words_in}
-use Rattle.c_typed.proofs.WellParts.{none_second, none_some}
+use Rattle.c_typed.specs.IsWell.{IsObject, IsStruct, IsGlobal, IsFunction, IsWell, words_in}
+use Rattle.c_typed.proofs.WellParts.{none_second}
 use Rattle.c_typed.proofs.WellStmts.{unless_none}
 use Rattle.c_typed.proofs.WellFunctions.{AllOf, all_at, all_from}
 use Rattle.c_typed.proofs.WellMarks.{IsShaped}

@@ -1,5 +1,5 @@
 -- Parts that declare variables; simple statements and declarations are well-formed.
-use Rattle.std.proofs.Common.{◌≡◌, ℕ, ◌+◌, ◌<◌, Bool, true, false, not, List, [], ◌∷◌, ◌++◌, map, Option, Some, None, refl, ap, sym, ◌∙◌, subst}
+use Rattle.std.proofs.Common.{◌≡◌, ℕ, Bool, true, false, not, List, [], ◌∷◌, ◌++◌, map, Option, Some, None, refl, ap, sym, ◌∙◌, subst}
 use Rattle.std.specs.Prelude.{slice_get}
 use Rattle.dfi_base.specs.declared.numbers.Line.{Line}
 use Rattle.c_ast.specs.declared.ident.Ident.{Ident}
@@ -15,17 +15,16 @@ use Rattle.c_typed.specs.declared.expr.Form.TheOpen.{Form-F}
 use Rattle.c_typed.specs.declared.stmt.Condition.{Condition}
 use Rattle.c_typed.specs.declared.stmt.Stmt.{Stmt, roll-Stmt, out-roll-Stmt}
 use Rattle.c_typed.specs.declared.stmt.Stmt.TheOpen.{Stmt-F}
-use Rattle.c_typed.specs.Types.{declared_type, scalar_type, fits, suits, suits_some, is_truth}
+use Rattle.c_typed.specs.Types.{scalar_type, fits, suits, suits_some, is_truth}
 use Rattle.c_typed.specs.Marks.{Mark, History, locals_in, around, in_loop, in_branch}
 use Rattle.c_typed.specs.Whole.{Whole, Signature, Builtin, Meaning, meaning, is_main}
 use Rattle.c_typed.specs.Faults.{Rule, Fault, mismatch, unless}
 use Rattle.c_typed.specs.Parts.{Place, Part, marked, tokens, mark, joined, behind, obeys, refused, with_faults, ◌⊗◌, ◌<⊗◌, ◌⊗>◌, ◌<$>◌}
 use Rattle.c_typed.specs.Exprs
 use Rattle.c_typed.specs.Exprs.{made, Size, Reading, value, place, expr, call, call_as, applied, asked, put, put_by, freed, freed_by, allocated, allocation, allocation_by, arguments, called, all_fit}
-use Rattle.c_typed.specs.Decls as decls
-use Rattle.c_typed.specs.Decls.{declared, starts_with, valued, local_item, local_decl}
+use Rattle.c_typed.specs.Decls.{declared, starts_with, valued}
 use Rattle.c_typed.specs.Stmts.{tested, condition, assigned, assigns_scalar, scalar_at, counted, simple}
-use Rattle.c_typed.specs.IsWell.{Context, Round, IsExpr, AreExprs, none, IsCondition, IsTarget, is_call, IsStmtLayer, placed, stmts_of, IsStmt, AreStmts, known, each}
+use Rattle.c_typed.specs.IsWell.{Context, Round, IsExpr, AreExprs, IsCondition, IsTarget, is_call, IsStmtLayer, placed, stmts_of, IsStmt, AreStmts, known, each}
 use Rattle.c_typed.proofs.Balanced.{Balanced, around_behind}
 use Rattle.c_typed.proofs.WellParts.{none_some, some_is, none_each, none_first, none_second, Stands, Kept, kept_first, kept_second, stands_behind, both_are, changed_is, ruled_is, ruled_faults, Pure, pure_tokens, pure_joined, pure_map, pure_obeys}
 use Rattle.c_typed.proofs.WellTypes.{IsLinked, made_known}

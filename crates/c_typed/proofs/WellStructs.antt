@@ -14,7 +14,7 @@ use Rattle.c_typed.specs.declared.fault.BigWhat.{BigWhat}
 use Rattle.c_typed.specs.declared.types.BaseType.{BaseType}
 use Rattle.c_typed.specs.declared.types.ObjectType.{ObjectType}
 use Rattle.c_typed.specs.declared.program.Struct.{Struct}
-use Rattle.c_typed.specs.Types.{place_of, base_type, declared_type, result_type, words_of, item_words, base_words, times}
+use Rattle.c_typed.specs.Types.{place_of, base_type, declared_type, result_type, words_of, item_words, times}
 use Rattle.c_typed.specs.Marks as marks
 use Rattle.c_typed.specs.Marks.{Mark, field, History, field_words}
 use Rattle.c_typed.specs.Whole.{Whole, Member, member, members, members_words, sizes_of, Signature, signature, struct_defs}

@@ -1,11 +1,11 @@
 -- The structs, globals and results of a whole text that breaks no rule, item by item.
-use Rattle.std.proofs.Common.{◌≡◌, ◌+◌, List, [], ◌∷◌, ◌++◌, map, refl, ap, sym, ◌∙◌, subst}
+use Rattle.std.proofs.Common.{◌≡◌, List, [], ◌∷◌, ◌++◌, map, refl, ap, sym, ◌∙◌, subst}
 use Rattle.std.proofs.lemmas.List.{append-nil}
 use Rattle.c_ast.specs.declared.decl.Decl.{Decl}
 use Rattle.c_ast.specs.declared.program.Item.{Item}
 use Rattle.c_typed.specs.declared.program.Struct.{Struct}
 use Rattle.c_typed.specs.declared.program.Global.{Global}
-use Rattle.c_typed.specs.Types.{base_type, declared_type, result_type}
+use Rattle.c_typed.specs.Types.{declared_type}
 use Rattle.c_typed.specs.Whole.{Whole, signatures, struct_defs}
 use Rattle.c_typed.specs.Parts.{Place, marked, behind, separated}
 use Rattle.c_typed.specs.Tags.{base}
@@ -17,7 +17,7 @@ use Rattle.c_typed.proofs.Quiet.{quiet_base}
 use Rattle.c_typed.proofs.WellParts.{none_first, none_second}
 use Rattle.c_typed.proofs.WellMarks.{IsShaped, Tagged, base_known}
 use Rattle.c_typed.proofs.WellFunctions.{AllOf, all_append}
-use Rattle.c_typed.proofs.WellItems.{Each, all_objects, item_objects}
+use Rattle.c_typed.proofs.WellItems.{Each, all_objects}
 use Rattle.c_typed.proofs.WellStructs.{IsStructured, struct_known, HasResult, result_known}
 use Rattle.c_typed.proofs.WellGlobals.{AreStarted, some_globals}
 

@@ -1,6 +1,6 @@
 -- Types of well-formed programs, and one level of an expression above well-formed operands.
 use Rattle.std.proofs.Common.{◌≡◌, ℕ, zero, suc, ◌+◌, ◌*◌, ◌<◌, ◌≤◌, Bool, true, false, List, [], ◌∷◌, map, length, get_or, Option, Some, None, refl, ap, sym, ◌∙◌, subst, arith}
-use Rattle.std.specs.Prelude.{slice_get, nat_eq, nat_lt, All}
+use Rattle.std.specs.Prelude.{slice_get, nat_eq, All}
 use Rattle.std.proofs.lemmas.List.Elements.{All-nil}
 use Rattle.c_typed.specs.declared.types.BaseType.{BaseType}
 use Rattle.c_typed.specs.declared.types.ObjectType.{ObjectType}
@@ -9,7 +9,7 @@ use Rattle.c_typed.specs.declared.expr.Expr.{Expr}
 use Rattle.c_typed.specs.declared.expr.Form.{Form, out-roll-Form}
 use Rattle.c_typed.specs.declared.expr.Form.TheOpen.{Form-F}
 use Rattle.c_typed.specs.declared.program.Struct.{Struct}
-use Rattle.c_typed.specs.Types.{words_of, item_words, base_words, times, scalar, scalar_type, value_by, value_type}
+use Rattle.c_typed.specs.Types.{item_words, times, scalar, value_by, value_type}
 use Rattle.c_typed.specs.Whole.{Whole, Member, Signature}
 use Rattle.c_typed.specs.Exprs.{made, taken, value_by_type, field_by}
 use Rattle.c_typed.specs.Decls.{type_limit}

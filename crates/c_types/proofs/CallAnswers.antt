@@ -1,5 +1,5 @@
 -- What the walk finds of a call is what the definition judges of it.
-use Rattle.std.proofs.Common.{◌≡◌, ℕ, ◌+◌, ◌<◌, ◌≤◌, Bool, true, false, List, [], ◌∷◌, ◌++◌, Option, Some, None, Ok, slice_get, refl, ap, sym, ◌∙◌, subst, arith}
+use Rattle.std.proofs.Common.{◌≡◌, ℕ, ◌+◌, ◌≤◌, Bool, true, false, List, [], ◌∷◌, ◌++◌, Option, Some, None, Ok, slice_get, refl, ap, sym, ◌∙◌, subst, arith}
 use Rattle.dfi_base.specs.declared.numbers.Line.{Line}
 use Rattle.c_ast.specs.declared.ident.Ident.{Ident}
 use Rattle.c_typed.specs.declared.types.ExprType.{ExprType}
@@ -20,7 +20,7 @@ use Rattle.c_types.specs.Tables.{looked}
 use Rattle.c_types.specs.ExprWalk as walk
 use Rattle.c_types.specs.ExprWalk.{Finding}
 use Rattle.c_types.proofs.AnswerLaws.{AllFrom, least_append}
-use Rattle.c_types.proofs.Bounds.{IsInside, IsBounded, inside, inside_tokens, inside_given, inside_joined, from_append}
+use Rattle.c_types.proofs.Bounds.{IsInside, IsBounded, inside, inside_tokens, inside_joined, from_append}
 use Rattle.c_types.proofs.BoundsExprs.{bounded_value}
 use Rattle.c_types.proofs.FormLaws.{after_tokens, before_tokens}
 use Rattle.c_typed.proofs.Quiet.{no_marks, before_same}

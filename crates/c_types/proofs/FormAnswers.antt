@@ -32,7 +32,7 @@ use Rattle.c_types.proofs.FormLaws.{after_tokens, before_tokens}
 use Rattle.c_typed.proofs.Quiet.{quiet_type_name, no_marks, before_same}
 use Rattle.c_types.proofs.Outlined.{IsOutline, Names, variable_at, spelled_so, spelled_builtin, member_of, members_of}
 use Rattle.c_types.proofs.Meanings.{IsMet, met, same_malloc}
-use Rattle.c_types.proofs.ExprAnswers.{obeys_answers, joined_answers, map_answers, BothAgree, Agrees, value_answers, type_name_answers}
+use Rattle.c_types.proofs.ExprAnswers.{obeys_answers, joined_answers, BothAgree, Agrees, value_answers, type_name_answers}
 
 -- One finding behind another.
 pub bind_same : {A B : Type 0} (r : Found A) (f g : A → Found B) → ((a : A) → f a ≡ g a) → (r >>= f) ≡ (r >>= g)

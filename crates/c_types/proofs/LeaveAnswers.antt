@@ -11,7 +11,7 @@ use Rattle.c_types.specs.declared.known.Around.{Around}
 use Rattle.c_typed.specs.Marks.{History, around, in_loop, in_branch, result_at}
 use Rattle.c_typed.specs.Whole.{Whole}
 use Rattle.c_typed.specs.Faults.{mismatch, escape, unless, told}
-use Rattle.c_typed.specs.Parts.{Place, Judged, Part, tokens, behind, kept_by, ruled_by, obeys, with_faults, ◌<⊗◌, ◌⊗>◌}
+use Rattle.c_typed.specs.Parts.{Place, Judged, Part, tokens, behind, kept_by, ruled_by, obeys, ◌<⊗◌, ◌⊗>◌}
 use Rattle.c_typed.specs.Stmts as stmts
 use Rattle.c_typed.specs.Stmts.{Layer, returns, value_there}
 use Rattle.c_types.specs.Answers.{Answers}

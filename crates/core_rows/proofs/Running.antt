@@ -1,6 +1,6 @@
 -- A test of modules: what passes it can run.
 use Rattle.std.proofs.Common.{◌≡◌, ℕ, zero, suc, ◌≤◌, ◌<◌, List, [], ◌∷◌, length, get_or, Bool, true, false, refl, Some, None, Ok, Err, IfOk, arith, sym, ◌∙◌, ap, subst}
-use Rattle.std.specs.Prelude.{nat_le, nat_lt, nat_eq, not, ◌&&◌, ◌||◌, ◌==◌, slice_get, All, Result}
+use Rattle.std.specs.Prelude.{nat_le, nat_eq, not, ◌&&◌, ◌||◌, ◌==◌, slice_get, All, Result}
 use Rattle.std.specs.List.{list_all}
 use Rattle.std.specs.declared.alloc.AllocError.{AllocError}
 use Rattle.std.proofs.lemmas.Bool.{eqb-true, eq-eqb, leb-true}

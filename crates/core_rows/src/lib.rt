@@ -1,4 +1,4 @@
-//! Small modules that can run, as rows of instructions in tables: what the core is tested on.
+//! Small modules that can run, as rows of instructions in tables: what the core and its threads are tested on.
 #![tactic(auto)]
 
 pub mod branches;

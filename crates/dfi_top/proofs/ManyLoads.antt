@@ -2,7 +2,6 @@
 use Rattle.std.proofs.Common.{◌≡◌, ℕ, ◌≤◌, Option, None, Some, IfSome, option_map, List, [], ◌∷◌, true, false, sym, ap, subst, ◌∙◌, arith, true≢false, refl}
 use Rattle.dfi_io.specs.Causes.{Rose}
 use Rattle.dfi_io.specs.Files.{Files}
-use Rattle.dfi_io.specs.Loads.{after_load}
 use Rattle.dfi_top.specs.Loads.{Load, AreLoads, AreTold, FailedOnly, LastHasTaken, after_loads}
 
 counted_on : (l : Load) (loads : List Load) (a b c : Option Files) → b ≡ option_map (after_loads (l ∷ [])) a → c ≡ option_map (after_loads loads) b

@@ -13,7 +13,6 @@ use Rattle.tac_ir.specs.declared.code.Fun.{Fun}
 use Rattle.tac_ir.specs.declared.code.Instr.{Instr}
 use Rattle.tac_ir.specs.declared.code.Lined.{Lined}
 use Rattle.tac_ir.specs.declared.code.Place.{Place}
-use Rattle.tac_ir.specs.Counts.{points_in_code}
 use Rattle.tac_ir.specs.GoodForm.{GoodForm, NamesExist}
 use Rattle.tac_ir.specs.Layout.{shapes_of_globals}
 use Rattle.tac_ir.specs.Module.{IsOrdered, is_chain}
@@ -25,7 +24,7 @@ use Rattle.first_module.specs.EachOnce.{each_once, place_of}
 use Rattle.first_module.specs.ModuleOf.{module_of}
 use Rattle.first_module.specs.Readers.{Ascends}
 use Rattle.first_module.specs.SetsOf.{all_sets, set_by, sets_behind, sets_of, straight_sets}
-use Rattle.first_module.specs.StraightLine.{global_at, is_straight, is_straight_behind}
+use Rattle.first_module.specs.StraightLine.{global_at, is_straight}
 use Rattle.first_module.specs.Trail.{Below, NamesWithin}
 use Rattle.first_module.proofs.AscendLemmas.{chain-from_ascends}
 use Rattle.first_module.proofs.ClassLemmas.{apart_at}

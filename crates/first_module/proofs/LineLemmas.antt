@@ -8,7 +8,7 @@ use Rattle.tac_ir.specs.declared.code.Lined.{Lined}
 use Rattle.tac_ir.specs.Numbers.{new_def, numbers_in}
 use Rattle.first_module.specs.Counted.{counted}
 use Rattle.first_module.specs.Readers.{Ascends}
-use Rattle.first_module.specs.SetsOf.{definitions_of, is_global, last_definition_of, or_none, set_by, sets_behind, target_of}
+use Rattle.first_module.specs.SetsOf.{definitions_of, is_global, or_none, set_by, sets_behind, target_of}
 use Rattle.first_module.specs.StraightLine.{global_at, global_behind, is_plain, is_straight_behind}
 use Rattle.first_module.specs.Steps.{last_of}
 use Rattle.first_module.specs.Trail.{Below, NamesWithin}

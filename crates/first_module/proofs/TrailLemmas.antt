@@ -8,7 +8,7 @@ use Rattle.std.proofs.lemmas.List.Elements.{All-from_recursion}
 use Rattle.tac_ir.specs.declared.code.Instr.{Instr}
 use Rattle.tac_ir.specs.declared.code.Lined.{Lined}
 use Rattle.first_module.specs.declared.steps.Step.{Step}
-use Rattle.first_module.specs.StraightLine.{behind_by, global_behind, is_plain, is_straight_behind}
+use Rattle.first_module.specs.StraightLine.{global_behind, is_plain, is_straight_behind}
 use Rattle.first_module.specs.SetsOf.{definitions_of, set_by, sets_behind}
 use Rattle.first_module.specs.Steps.{IsStepWithin, definitions_after, last_of, moved_by, sets_in, step_of}
 use Rattle.first_module.specs.Trail.{HasTrail, Moves, NamesWithin, Sets}

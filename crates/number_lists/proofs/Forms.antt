@@ -1,5 +1,5 @@
 -- The two forms of numbers.
-use Rattle.std.proofs.Common.{◌≡◌, ℕ, zero, suc, ◌≤◌, Bool, true, false, ◌&&◌, nat_eq, nat_le, ℤ, pos, List, [], ◌∷◌, Option, Some, None, is_some, refl, sym, ap, subst, ◌∙◌, arith, true≢false, if◌then◌else◌}
+use Rattle.std.proofs.Common.{◌≡◌, ℕ, zero, suc, ◌≤◌, Bool, true, false, ◌&&◌, nat_eq, nat_le, ℤ, pos, List, [], ◌∷◌, Option, Some, None, refl, sym, ap, subst, ◌∙◌, arith, true≢false, if◌then◌else◌}
 use Rattle.std.specs.Prelude.{option_map, neg_ℤ, FitsSigned}
 use Rattle.std.proofs.Common.{w32}
 use Rattle.std.specs.Char.{is_ascii_digit}
@@ -12,7 +12,7 @@ use Rattle.number_lists.specs.declared.scan.State.{State}
 use Rattle.number_lists.specs.Lists.{is_filled, value_of, number_up_to, int_of, name_of}
 use Rattle.number_lists.specs.Scanning.{Fits, ended, most_of, int_form, name_form, int_value, name_value}
 use Rattle.number_lists.proofs.Numbers.{AreDigits, IsSpelled, Makes}
-use Rattle.number_lists.proofs.Walk.{none_some, some_none, sign_is_no_digit, is_sign}
+use Rattle.number_lists.proofs.Walk.{none_some, some_none, is_sign}
 
 all_digits : (digits : List ℕ) → AreDigits digits → list_all is_ascii_digit digits ≡ true
 all_digits [] are = refl

@@ -8,9 +8,9 @@ use Rattle.number_lists.specs.Lists.{is_blank, is_filled, list_of, with_number, 
 use Rattle.number_lists.specs.Scanning.{most_of, nought, begun, step, given, last, scan}
 use Rattle.number_lists.specs.Scanning as scanning
 use Rattle.number_lists.proofs.Words.{IsWord}
-use Rattle.number_lists.proofs.Numbers.{AreDigits, IsSpelled, Makes, digit_is_no_blank}
-use Rattle.number_lists.proofs.Walk.{Pending, taken, none_some, some_none, blank_is_no_digit, sign_is_no_digit, rest_of}
-use Rattle.number_lists.proofs.Stopping.{list_of_word, list_behind_word, list_behind_blank, none_with, some_with, word_of_spelled, no_list, continues, stops}
+use Rattle.number_lists.proofs.Numbers.{AreDigits, IsSpelled, Makes}
+use Rattle.number_lists.proofs.Walk.{Pending, taken, blank_is_no_digit, sign_is_no_digit, rest_of}
+use Rattle.number_lists.proofs.Stopping.{list_of_word, list_behind_word, list_behind_blank, none_with, some_with, word_of_spelled, continues, stops}
 
 -- behind a word that is pending, the bytes stop being a list at this place
 pub record Stops {A : Type 0} (number : List ℕ → Option A) (word bytes : List ℕ) (i : ℕ) : Type 0 where

@@ -11,7 +11,6 @@ use Rattle.tac_lower.specs.Instrs.{draft, no_number}
 use Rattle.tac_lower.specs.Stmts.{entries, fork, branches}
 use Rattle.tac_lower.specs.Emits.{Exact, Emits, Counts}
 use Rattle.tac_lower.specs.Nested.{Forks}
-use Rattle.tac_lower.proofs.Follows.{next}
 
 abbrev pub total : List (Part ℕ) → ℕ
 total ps = sum (map (λ p. p.points) ps)

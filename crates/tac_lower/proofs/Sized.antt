@@ -16,7 +16,7 @@ use Rattle.tac_lower.specs.declared.plan.Plan.{Plan}
 use Rattle.tac_lower.specs.declared.plan.Logic.{Logic}
 use Rattle.tac_lower.specs.Parts.{Part, given, chained, gathered, in_turn, ◌▷◌, ◌⨟◌}
 use Rattle.tac_lower.specs.Instrs.{quiet, address, field, decay, index, get, load, new, call, test, test_past}
-use Rattle.tac_lower.specs.Values.{Yield, direct, left, Lowered, onward, value, part_of, read, pointer_to, first_item, against_null, truth_as, truth_by, truth, is_int, negation, prefix, plan, carried, settled, both, either, logic, operation_by, object_of, form_step, expr}
+use Rattle.tac_lower.specs.Values.{Yield, direct, left, Lowered, onward, value, part_of, read, pointer_to, against_null, truth_as, truth_by, truth, is_int, negation, prefix, plan, carried, settled, both, either, logic, operation_by, object_of, form_step, expr}
 use Rattle.c_typed.specs.Types.{words_of}
 use Rattle.tac_lower.proofs.Levels.{form_yield, mapped}
 use Rattle.tac_lower.proofs.Chains.{truth_counts, prefix_counts, carried_counts, gathered_counts}

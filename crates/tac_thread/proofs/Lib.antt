@@ -6,5 +6,3 @@ pub mod Sized
 pub mod Nested
 pub mod Trees
 pub mod Forking
-pub mod Samples
-pub mod DeepForm

@@ -14,6 +14,3 @@ pub mod Paths
 pub mod Splitting
 pub mod Threads
 pub mod Settling
-pub mod Bytes
-pub mod Samples
-pub mod Deep

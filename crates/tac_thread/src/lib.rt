@@ -4,16 +4,10 @@
 
 mod answer;
 mod calls;
-#[cfg(test)]
-mod codes;
-#[cfg(test)]
-mod deep_tests;
 mod doing;
 mod domain;
 mod fetch;
 mod flat;
-#[cfg(test)]
-mod flat_tests;
 mod forks;
 mod guest;
 mod law;
@@ -22,8 +16,6 @@ mod run;
 mod shapes;
 mod sizes;
 mod temps;
-#[cfg(test)]
-mod tests;
 mod tree;
 mod want;
 

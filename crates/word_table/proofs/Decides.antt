@@ -1,6 +1,6 @@
 -- What the words answer is what the run allows.
-use Rattle.std.proofs.Common.{◌≡◌, ℕ, ◌<◌, ◌≤◌, List, length, get_or, Bool, true, false, Some, None, arith, sym, ◌∙◌, ap, ⊎_elim}
-use Rattle.std.specs.Prelude.{nat_lt, nat_le, ◌&&◌, not, slice_get, slice_index, if◌then◌else◌}
+use Rattle.std.proofs.Common.{◌≡◌, ℕ, ◌<◌, ◌≤◌, List, length, Bool, true, false, Some, None, arith, sym, ◌∙◌, ap, ⊎_elim}
+use Rattle.std.specs.Prelude.{nat_le, ◌&&◌, not, slice_get, slice_index, if◌then◌else◌}
 use Rattle.std.proofs.lemmas.Bool.{cases_lt}
 use Rattle.std.proofs.lemmas.Option.{slice_get_past, slice_get-get_or}
 use Rattle.tac_ir.specs.declared.run.Answer.{Answer}
@@ -13,7 +13,6 @@ use Rattle.tac_ir.specs.Answers.{class_of, is_checked, is_allowed, read_answer, 
 use Rattle.word_table.specs.Tables.{CanRun}
 use Rattle.word_table.specs.Words.{Words}
 use Rattle.word_table.specs.Holds.{HoldsAfter}
-use Rattle.word_table.specs.Classes.{is_class_in}
 use Rattle.word_table.specs.Deciding.{found_by, decided}
 use Rattle.word_table.proofs.Members.{allowed_is}
 

@@ -1,12 +1,12 @@
 -- Code of a good form is laid out in few words.
 use Rattle.std.proofs.Common.{◌≡◌, ℕ, ◌<◌, ◌≤◌, ◌^◌, List, [], ◌∷◌, length, get_or, reverse, true, false, refl, arith, ◌∙◌, ap}
-use Rattle.std.specs.Prelude.{◌&&◌, slice_get}
+use Rattle.std.specs.Prelude.{◌&&◌}
 use Rattle.std.proofs.lemmas.Bool.{lt-ltb, eq-eqb}
 use Rattle.std.proofs.lemmas.List.{length-reverse}
 use Rattle.std.proofs.lemmas.Option.{slice_get-get_or}
 use Rattle.tac_ir.specs.declared.code.Code.{Code}
 use Rattle.tac_ir.specs.declared.code.Shape.{Shape}
-use Rattle.tac_ir.specs.Layout.{words_by, words_in, shape_words}
+use Rattle.tac_ir.specs.Layout.{words_by, words_in}
 use Rattle.tac_ir.specs.GoodForm.{GoodForm}
 use Rattle.tac_ir.proofs.ShapeWords.{words_in-earlier}
 use Rattle.code_layout.specs.LaidOut.{are_sized, global_start, IsLaidOut}

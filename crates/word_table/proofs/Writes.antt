@@ -1,6 +1,6 @@
 -- The words after a write, and after what writes nothing.
-use Rattle.std.proofs.Common.{◌≡◌, ℕ, ◌<◌, ◌≤◌, List, ◌∷◌, length, Bool, true, false, Option, Some, None, refl, arith, sym, ◌∙◌, ap, subst, ⊎_elim, ◌⊎◌}
-use Rattle.std.specs.Prelude.{nat_eq, nat_lt, nat_le, ◌&&◌, slice_index, slice_set, if◌then◌else◌}
+use Rattle.std.proofs.Common.{◌≡◌, ℕ, ◌<◌, ◌≤◌, List, ◌∷◌, length, Bool, true, false, Option, Some, None, refl, arith, sym, ◌∙◌, ap, subst, ⊎_elim}
+use Rattle.std.specs.Prelude.{nat_eq, nat_lt, ◌&&◌, slice_index, slice_set, if◌then◌else◌}
 use Rattle.std.proofs.lemmas.Bool.{cases_lt, cases_eq, lt-ltb, le-ltb, eq-eqb, ne_eqb}
 use Rattle.std.proofs.lemmas.List.{get_or-set_same, get_or-set_other, length-set}
 use Rattle.tac_ir.specs.declared.run.Op.{Op}
@@ -13,7 +13,7 @@ use Rattle.tac_ir.specs.Answers.{class_of, write_answer}
 use Rattle.word_table.specs.Words.{Words}
 use Rattle.word_table.specs.Holds.{HoldsAfter}
 use Rattle.word_table.specs.Deciding.{written}
-use Rattle.word_table.proofs.Decides.{writes_inside, writes_outside}
+use Rattle.word_table.proofs.Decides.{writes_inside}
 
 abbrev last_by : Module → List Entry → ℕ → Option Written → Written
 last_by m h w o = elim o [ Some written ↦ written | None ↦ last_write m.code h w ]

@@ -4,7 +4,6 @@ use Rattle.std.specs.List.{flat_map}
 use Rattle.tac_ir.specs.declared.code.Global.{Global}
 use Rattle.tac_ir.specs.Module.{Module}
 use Rattle.tac_ir.specs.Words.{word_of}
-use Rattle.tac_ir.specs.Layout.{memory_words}
 use Rattle.tac_ir.specs.Answers.{class_of}
 use Rattle.word_table.specs.declared.areas.Area.{Area}
 

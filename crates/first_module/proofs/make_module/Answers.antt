@@ -2,7 +2,6 @@ use Rattle.std.proofs.Common.{◌≡◌, length, false, replicate, sym, ap, subs
 use Rattle.tac_ir.specs.declared.module.Size.{Size}
 use Rattle.tac_ir.specs.Module.{IsOrdered, Module}
 use Rattle.word_table.specs.Tables.{CanRun}
-use Rattle.first_module.specs.ClassesOf.{classes_of}
 use Rattle.first_module.specs.ModuleOf.{module_of}
 use Rattle.first_module.specs.SetsOf.{sets_of}
 use Rattle.first_module.proofs.FormLemmas.{can_run, is_ordered}

@@ -1,4 +1,4 @@
-use Rattle.std.proofs.Common.{◌+◌, ◌++◌, map, subst, arith}
+use Rattle.std.proofs.Common.{◌++◌, map, subst, arith}
 use Rattle.std.proofs.lemmas.List.{take_all}
 use Rattle.tac_lower.specs.CodeOf.{all_of, site_of, sites_in}
 use Rattle.tac_lower.specs.Interning.{Interned}

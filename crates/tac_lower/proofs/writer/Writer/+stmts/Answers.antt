@@ -1,11 +1,10 @@
-use Rattle.std.proofs.Common.{length, rules, map, ◌≡◌, ℕ, ◌+◌, ◌<◌, ◌≤◌, true, false, add-zero, Ok, Err, option_map, refl, ap, sym, ◌∙◌, subst, arith}
+use Rattle.std.proofs.Common.{length, rules, map, ◌≡◌, ℕ, ◌+◌, ◌<◌, ◌≤◌, add-zero, Ok, Err, option_map, refl, ap, sym, ◌∙◌, subst, arith}
 use Rattle.tac_lower.specs.declared.draft.Ends.{Ends}
 use Rattle.tac_lower.specs.Emits.{Emits, Counts}
 use Rattle.tac_lower.specs.Nested.{Forks, branch, closed, guarded, skipped}
 use Rattle.tac_lower.specs.Parts.{in_turn, ◌⨟◌}
 use Rattle.tac_lower.specs.Instrs.{jump, skip}
-use Rattle.tac_lower.specs.Values.{value}
-use Rattle.tac_lower.specs.Stmts.{around_by, stmt, assignment, condition, guard, choice, turn, while, for, fork, branches, stop}
+use Rattle.tac_lower.specs.Stmts.{around_by, stmt, condition, guard, choice, while, for, fork, branches, stop}
 use Rattle.tac_lower.proofs.Chains.{counted_stopped, too_long, dry_stopped}
 use Rattle.tac_lower.proofs.Gathers.{left_from}
 use Rattle.tac_lower.proofs.Follows.{next, halt, exactly, regroup, leaves_loop}

@@ -11,7 +11,7 @@ use Rattle.tac_lower.specs.Instrs as i
 use Rattle.tac_lower.specs.Values.{expr, value, values_of, truth, truth_by, struct_sizes, object_of, is_int, left, read, pointer_to, part_of, prefix, plan, carried, settled, operation, operation_by}
 use Rattle.tac_lower.proofs.Levels as levels
 use Rattle.tac_lower.proofs.Levels.{typing_is}
-use Rattle.tac_lower.proofs.Chains.{follow, stopped, yields, yields_stopped, yields_part, part_stopped, leaves, leaves_stopped, counted, counted_stopped, too_long, dry_stopped, valued, truth_counts, prefix_counts, carried_counts, gathered_counts}
+use Rattle.tac_lower.proofs.Chains.{follow, stopped, yields, yields_stopped, yields_part, part_stopped, leaves, leaves_stopped, counted, counted_stopped, too_long, dry_stopped, valued, truth_counts, prefix_counts, carried_counts}
 use Rattle.tac_lower.proofs.Gathers.{left_from, next_argument, no_argument, all_arguments}
 use Rattle.tac_lower.proofs.writer.Writer.+values.Goals as goal
 

@@ -1,12 +1,9 @@
-use Rattle.std.proofs.Common.{rules, ◌≡◌, Err, refl, sym, subst, to_z}
-use Rattle.c_typed.specs.declared.expr.Form.TheVariants as form
-use Rattle.tac_lower.specs.Emits.{Emits, at_spot, write_at}
+use Rattle.std.proofs.Common.{rules, ◌≡◌, Err, refl, sym, subst}
+use Rattle.tac_lower.specs.Emits.{Emits, write_at}
 use Rattle.tac_lower.specs.Parts.{◌▷◌}
 use Rattle.tac_lower.specs.Instrs as i
 use Rattle.tac_lower.specs.Values.{expr, value, struct_sizes}
-use Rattle.tac_lower.proofs.Levels as levels
 use Rattle.tac_lower.proofs.Chains.{write_behind, write_counts, follow, stopped, yields, yields_stopped}
-use Rattle.tac_lower.proofs.Gathers.{no_argument}
 use Rattle.tac_lower.specs.Stmts as stmts
 use Rattle.tac_lower.proofs.writer.Writer.assign.Goals as goal
 

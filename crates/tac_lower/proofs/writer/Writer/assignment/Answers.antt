@@ -1,8 +1,4 @@
 use Rattle.std.proofs.Common.{sym, ◌∙◌}
-use Rattle.c_typed.specs.declared.expr.Form.TheVariants as form
-use Rattle.tac_lower.specs.Instrs as i
-use Rattle.tac_lower.proofs.Levels as levels
-use Rattle.tac_lower.specs.Stmts as stmts
 use Rattle.tac_lower.proofs.writer.Writer.assignment.Goals as goal
 
 pub returns-then-is_plain : goal.returns-then-is_plain

@@ -1,4 +1,3 @@
-use Rattle.tac_lower.specs.Instrs.{same, index}
 use Rattle.tac_lower.proofs.writer.Writer.carry.Goals as goal
 
 pub returns-in-Compute : goal.returns-in-Compute

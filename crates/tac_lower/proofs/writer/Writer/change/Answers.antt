@@ -1,10 +1,7 @@
-use Rattle.std.proofs.Common.{rules, ◌≡◌, Ok, Err, ap, sym, ◌∙◌, subst, to_z}
-use Rattle.c_typed.specs.declared.expr.Form.TheVariants as form
-use Rattle.tac_lower.specs.Emits.{Emits, at_spot, write_at, changed}
-use Rattle.tac_lower.specs.Instrs as i
+use Rattle.std.proofs.Common.{rules, ◌≡◌, Ok, Err, ap, sym, ◌∙◌, subst}
+use Rattle.tac_lower.specs.Emits.{Emits, write_at, changed}
 use Rattle.tac_lower.specs.Values.{struct_sizes, carried}
-use Rattle.tac_lower.proofs.Levels as levels
-use Rattle.tac_lower.proofs.Chains.{write_counts, changed_counts, follow, stopped, carried_counts}
+use Rattle.tac_lower.proofs.Chains.{write_counts, follow, stopped}
 use Rattle.tac_lower.specs.Stmts as stmts
 use Rattle.tac_lower.proofs.writer.Writer.change.Goals as goal
 

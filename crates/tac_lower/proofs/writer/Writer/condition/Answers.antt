@@ -1,9 +1,7 @@
-use Rattle.std.proofs.Common.{rules, ◌≡◌, Err, refl, sym, subst, to_z}
-use Rattle.c_typed.specs.declared.expr.Form.TheVariants as form
+use Rattle.std.proofs.Common.{rules, ◌≡◌, Err, refl, sym, subst}
 use Rattle.tac_lower.specs.Emits.{Emits}
 use Rattle.tac_lower.specs.Instrs as i
-use Rattle.tac_lower.specs.Values.{expr, value, truth, struct_sizes}
-use Rattle.tac_lower.proofs.Levels as levels
+use Rattle.tac_lower.specs.Values.{expr, truth, struct_sizes}
 use Rattle.tac_lower.proofs.Chains.{follow, stopped}
 use Rattle.tac_lower.specs.Stmts as stmts
 use Rattle.tac_lower.proofs.writer.Writer.condition.Goals as goal

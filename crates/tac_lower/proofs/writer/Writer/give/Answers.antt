@@ -1,12 +1,9 @@
-use Rattle.std.proofs.Common.{rules, ◌≡◌, pos, Err, sym, subst, to_z}
-use Rattle.c_typed.specs.declared.expr.Form.TheVariants as form
+use Rattle.std.proofs.Common.{rules, ◌≡◌, pos, Err, sym, subst}
 use Rattle.tac_lower.specs.Emits.{Emits}
 use Rattle.tac_lower.specs.Parts.{◌▷◌}
 use Rattle.tac_lower.specs.Instrs as i
 use Rattle.tac_lower.specs.Values.{expr, value, struct_sizes}
-use Rattle.tac_lower.proofs.Levels as levels
 use Rattle.tac_lower.proofs.Chains.{returned_counts, follow, stopped}
-use Rattle.tac_lower.proofs.Gathers.{no_argument}
 use Rattle.tac_lower.specs.Stmts as stmts
 use Rattle.tac_lower.proofs.writer.Writer.give.Goals as goal
 

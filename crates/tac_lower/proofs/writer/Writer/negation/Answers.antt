@@ -1,6 +1,3 @@
-use Rattle.std.proofs.Common.{true, false}
-use Rattle.tac_lower.specs.Instrs.{prefixed}
-use Rattle.tac_lower.specs.Values.{against_null}
 use Rattle.tac_lower.proofs.writer.Writer.negation.Goals as goal
 
 pub returns-then-int : goal.returns-then-int

@@ -1,9 +1,6 @@
 use Rattle.std.proofs.Common.{subst}
-use Rattle.c_typed.specs.declared.expr.Form.TheVariants as form
 use Rattle.tac_lower.specs.Emits.{Emits}
 use Rattle.tac_lower.specs.Instrs as i
-use Rattle.tac_lower.proofs.Levels as levels
-use Rattle.tac_lower.specs.Stmts as stmts
 use Rattle.tac_lower.proofs.writer.Writer.old_value.Goals as goal
 
 pub returns-in_ok-place-in-Direct : goal.returns-in_ok-place-in-Direct

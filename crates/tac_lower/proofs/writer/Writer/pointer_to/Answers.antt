@@ -1,4 +1,3 @@
-use Rattle.tac_lower.specs.Instrs as spec
 use Rattle.tac_lower.proofs.Chains.{nothing}
 use Rattle.tac_lower.proofs.writer.Writer.pointer_to.Goals as goal
 

@@ -1,7 +1,6 @@
 use Rattle.std.proofs.Common.{subst}
-use Rattle.tac_lower.specs.Instrs.{prefixed}
 use Rattle.tac_lower.specs.Emits.{Emits}
-use Rattle.tac_lower.specs.Values.{negation, is_int}
+use Rattle.tac_lower.specs.Values.{negation}
 use Rattle.tac_lower.proofs.writer.Writer.prefix.Goals as goal
 
 pub returns-in-Minus : goal.returns-in-Minus

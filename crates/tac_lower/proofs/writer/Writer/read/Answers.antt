@@ -1,4 +1,3 @@
-use Rattle.tac_lower.specs.Instrs as spec
 use Rattle.tac_lower.proofs.writer.Writer.read.Goals as goal
 
 pub returns-in-Direct : goal.returns-in-Direct

@@ -1,12 +1,10 @@
-use Rattle.std.proofs.Common.{rules, ◌≡◌, ◌+◌, pos, Err, refl, ap, sym, subst, to_z}
-use Rattle.c_typed.specs.declared.expr.Form.TheVariants as form
+use Rattle.std.proofs.Common.{rules, ◌≡◌, ◌+◌, pos, Err, refl, ap, sym, subst}
 use Rattle.tac_lower.specs.Emits.{Emits, at_spot, changed}
 use Rattle.tac_lower.specs.Parts.{◌▷◌}
 use Rattle.tac_lower.specs.Instrs as i
-use Rattle.tac_lower.specs.Values.{expr, struct_sizes, is_int, carried}
-use Rattle.tac_lower.proofs.Levels as levels
+use Rattle.tac_lower.specs.Values.{expr, struct_sizes, carried}
 use Rattle.tac_lower.proofs.Levels.{typing_is}
-use Rattle.tac_lower.proofs.Chains.{change_behind, changed_counts, follow, stopped, yields, yields_stopped, carried_counts}
+use Rattle.tac_lower.proofs.Chains.{change_behind, changed_counts, follow, stopped, yields, yields_stopped}
 use Rattle.tac_lower.specs.Stmts as stmts
 use Rattle.tac_lower.proofs.writer.Writer.step.Goals as goal
 

@@ -1,5 +1,4 @@
-use Rattle.std.proofs.Common.{false, sym, ◌∙◌}
-use Rattle.tac_lower.specs.Values.{against_null, is_int}
+use Rattle.std.proofs.Common.{sym, ◌∙◌}
 use Rattle.tac_lower.proofs.writer.Writer.truth_of.Goals as goal
 
 pub returns-else-is_int : goal.returns-else-is_int

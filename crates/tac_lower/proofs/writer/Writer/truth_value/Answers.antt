@@ -1,13 +1,8 @@
-use Rattle.std.proofs.Common.{rules, ◌≡◌, Err, sym, subst, to_z, of_z}
-use Rattle.c_typed.specs.declared.expr.Form.TheVariants as form
+use Rattle.std.proofs.Common.{rules, ◌≡◌, Err, sym, subst}
 use Rattle.tac_lower.specs.Emits.{Emits}
-use Rattle.tac_lower.specs.Instrs as i
 use Rattle.tac_lower.specs.Values.{expr, value, truth, truth_by, struct_sizes, is_int}
-use Rattle.tac_lower.proofs.Levels as levels
 use Rattle.tac_lower.proofs.Levels.{typing_is}
 use Rattle.tac_lower.proofs.Chains.{follow, stopped, truth_counts}
-use Rattle.tac_lower.proofs.Gathers.{no_argument}
-use Rattle.tac_lower.specs.Stmts as stmts
 use Rattle.tac_lower.proofs.writer.Writer.truth_value.Goals as goal
 
 pub returns : goal.returns

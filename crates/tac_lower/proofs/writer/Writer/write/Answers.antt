@@ -1,7 +1,3 @@
-use Rattle.c_typed.specs.declared.expr.Form.TheVariants as form
-use Rattle.tac_lower.specs.Instrs as i
-use Rattle.tac_lower.proofs.Levels as levels
-use Rattle.tac_lower.specs.Stmts as stmts
 use Rattle.tac_lower.proofs.writer.Writer.write.Goals as goal
 
 pub returns-in-Direct : goal.returns-in-Direct

@@ -1,0 +1,70 @@
+//! Reserved words and marks as text.
+
+use c_lex::{Mark, Word};
+
+pub fn word_text(word: Word) -> &'static str {
+    match word {
+        Word::Int => "int",
+        Word::Void => "void",
+        Word::Struct => "struct",
+        Word::If => "if",
+        Word::Else => "else",
+        Word::While => "while",
+        Word::For => "for",
+        Word::Return => "return",
+        Word::Break => "break",
+        Word::Continue => "continue",
+        Word::Par => "par",
+        Word::Sizeof => "sizeof",
+        Word::Null => "NULL",
+        Word::Unused => "unused",
+    }
+}
+
+pub fn mark_text(mark: Mark) -> &'static str {
+    match mark {
+        Mark::OpenBrace => "{",
+        Mark::CloseBrace => "}",
+        Mark::OpenParen => "(",
+        Mark::CloseParen => ")",
+        Mark::OpenBracket => "[",
+        Mark::CloseBracket => "]",
+        Mark::Semicolon => ";",
+        Mark::Comma => ",",
+        Mark::Dot => ".",
+        Mark::Arrow => "->",
+        Mark::Assign => "=",
+        Mark::Plus => "+",
+        Mark::Minus => "-",
+        Mark::Star => "*",
+        Mark::Slash => "/",
+        Mark::Percent => "%",
+        Mark::And => "&",
+        Mark::Or => "|",
+        Mark::Xor => "^",
+        Mark::Tilde => "~",
+        Mark::Not => "!",
+        Mark::Less => "<",
+        Mark::Greater => ">",
+        Mark::LessEqual => "<=",
+        Mark::GreaterEqual => ">=",
+        Mark::Equal => "==",
+        Mark::NotEqual => "!=",
+        Mark::AndAnd => "&&",
+        Mark::OrOr => "||",
+        Mark::ShiftLeft => "<<",
+        Mark::ShiftRight => ">>",
+        Mark::PlusAssign => "+=",
+        Mark::MinusAssign => "-=",
+        Mark::StarAssign => "*=",
+        Mark::SlashAssign => "/=",
+        Mark::PercentAssign => "%=",
+        Mark::AndAssign => "&=",
+        Mark::OrAssign => "|=",
+        Mark::XorAssign => "^=",
+        Mark::ShiftLeftAssign => "<<=",
+        Mark::ShiftRightAssign => ">>=",
+        Mark::PlusPlus => "++",
+        Mark::MinusMinus => "--",
+    }
+}

@@ -1,0 +1,68 @@
+ghost use Rattle.std.specs.Prelude.{◌≡◌, ℕ, Some, true, IsTrue, IfOk, IfSome, slice_get};
+ghost use Rattle.tac_ir.specs.GoodForm.{GoodForm};
+ghost use Rattle.tac_thread.specs.declared.flat.FlatStack.{FlatStack};
+ghost use Rattle.tac_thread.specs.Flat.{flat_meaning};
+
+use dfi_base::{Memory, Name};
+use obj_mem::Maker;
+use std::alloc::Global;
+use tac_ir::Code;
+use tac_thread::{Domain, FlatStack, FlatWords};
+
+// Words do not tell who made a frame.
+const MAKER: Maker = Maker {
+    thread: Name(1),
+    count: 1,
+};
+
+/// The stack of a function that is called; none where it has no room.
+pub fn called(c: &Code, s: &FlatStack, fun: u32) -> Option<FlatStack>
+    requires { GoodForm c.now }
+    ensures { IfSome result (λ callee. IsTrue (flat_meaning.has_frame c.now fun callee)) }
+{
+    if fun as usize >= c.funs.len() {
+        return None;
+    }
+    FlatWords::enter(c, s, fun, MAKER)
+}
+
+/// Whether a frame of the function stands between the base and the top.
+fn is_framed(c: &Code, fun: u32, s: &FlatStack) -> bool
+    requires { GoodForm c.now }
+    ensures { result ≡ true → IsTrue (flat_meaning.has_frame c.now fun s.now) }
+{
+    if fun as usize >= c.funs.len() {
+        return false;
+    }
+    let room = FlatStack {
+        base: s.base,
+        top: s.base,
+        end: s.top,
+    };
+    match FlatWords::enter(c, &room, fun, MAKER) {
+        None => false,
+        Some(_) => true,
+    }
+}
+
+/// The shares of a stack for the branches of a fork in this function, but those without a frame.
+pub fn shares(
+    alloc: Global,
+    c: &Code,
+    fun: u32,
+    s: &FlatStack,
+    n: u32,
+) -> Result<Vec<FlatStack>, Memory>
+    requires { GoodForm c.now }
+    ensures { IfOk result (λ v. (i : ℕ) (s : FlatStack) → slice_get v.items i ≡ Some s → IsTrue (flat_meaning.has_frame c.now fun s)) }
+{
+    let mut stacks = Vec::new(alloc);
+    for i in 0..n {
+        if let Some(share) = FlatWords::share(s, n, i + 1) {
+            if is_framed(c, fun, &share) {
+                stacks.push(share)?;
+            }
+        }
+    }
+    Ok(stacks)
+}
