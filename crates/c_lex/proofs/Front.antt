@@ -15,7 +15,7 @@ use Rattle.c_lex.specs.declared.token.Mark as marks
 use Rattle.c_lex.specs.Bytes.{is_white, is_word_byte, is_newline}
 use Rattle.c_lex.specs.Marks.{mark_of, spellings}
 use Rattle.c_lex.specs.PieceOf.{begins, block_piece, but_last, has_close, piece_of, run_piece, when}
-use Rattle.c_lex.specs.Scanning.{block_comment, close_at, line_comment_length, mark_at, piece_at}
+use Rattle.c_lex.specs.tools.Scanning.{block_comment, close_at, line_comment_length, mark_at, piece_at}
 use Rattle.c_lex.proofs.MarkTable.{begins-more, exact, first, first-exact, is_falling, longer-exact, none-exact}
 
 -- ---- a piece by how it begins

@@ -13,8 +13,8 @@ use Rattle.c_lex.specs.Bytes.{line_at, newlines}
 use Rattle.c_lex.specs.FirstFault.{is_token}
 use Rattle.c_lex.specs.IsPiece.{IsPiece}
 use Rattle.c_lex.specs.OneMeaning.{SomeMeaning}
-use Rattle.c_lex.specs.Reading.{names_with, IsRead}
-use Rattle.c_lex.specs.Scanning.{piece_at}
+use Rattle.c_lex.specs.tools.Reading.{names_with, IsRead}
+use Rattle.c_lex.specs.tools.Scanning.{piece_at}
 use Rattle.c_lex.specs.Tokens.{IsKind}
 use Rattle.c_lex.proofs.Front.{IsRight, piece_right}
 use Rattle.c_lex.proofs.Steps.{lexes_all, none_placed, piece_long, piece_placed, read_gap, read_none, read_token, tells_byte, tells_many, tells_piece, token_at}

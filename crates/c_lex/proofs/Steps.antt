@@ -19,8 +19,8 @@ use Rattle.c_lex.specs.IsLexed.{LexesTo}
 use Rattle.c_lex.specs.IsPiece.{NoPiece, IsPiece}
 use Rattle.c_lex.specs.Names.{each_once, if_name, name_texts, with_name}
 use Rattle.c_lex.specs.PieceOf.{piece_of}
-use Rattle.c_lex.specs.Reading.{fault_of, is_gap, names_with, IsAdded, IsRead, Overflows}
-use Rattle.c_lex.specs.Scanning.{piece_at}
+use Rattle.c_lex.specs.tools.Reading.{fault_of, is_gap, names_with, IsAdded, IsRead, Overflows}
+use Rattle.c_lex.specs.tools.Scanning.{piece_at}
 use Rattle.c_lex.specs.Tokens.{IsGap, IsKind, IsToken, Tokens}
 use Rattle.c_lex.specs.Tokens.IsGap.{none, more}
 use Rattle.c_lex.proofs.Front.{IsFront, IsRight, piece_nil, piece_right}

@@ -16,7 +16,7 @@ use Rattle.c_lex.specs.FirstFault.{is_token, IsFirstFault, TokensBefore}
 use Rattle.c_lex.specs.IsLexed.{Lexed, LexesTo}
 use Rattle.c_lex.specs.IsPiece.{StandsAt, NoPiece, IsPiece}
 use Rattle.c_lex.specs.PieceOf.{piece_of}
-use Rattle.c_lex.specs.Scanning.{piece_at}
+use Rattle.c_lex.specs.tools.Scanning.{piece_at}
 use Rattle.c_lex.specs.Tokens.{IsGap, IsKind, IsToken, Tokens}
 use Rattle.c_lex.specs.Tokens.IsGap.{none, more}
 use Rattle.c_lex.proofs.Front.{IsRight, no_piece, piece_right}

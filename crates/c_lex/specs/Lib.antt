@@ -10,5 +10,4 @@ pub mod IsLexed
 pub mod FirstFault
 pub mod OneMeaning
 pub mod CommentIsSpace
-pub mod Scanning
-pub mod Reading
+pub mod tools

@@ -1,6 +1,6 @@
 //! Comments (C99 6.4.9).
 ghost use Rattle.std.specs.Prelude.{◌≡◌, ◌≤◌, length, IfSome};
-ghost use Rattle.c_lex.specs.Scanning.{close_at, line_comment_length, block_comment};
+ghost use Rattle.c_lex.specs.tools.Scanning.{close_at, line_comment_length, block_comment};
 
 use crate::piece::Piece;
 

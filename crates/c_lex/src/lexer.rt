@@ -3,7 +3,7 @@ ghost use Rattle.c_lex.specs.Bytes.{line_at, newlines};
 ghost use Rattle.c_lex.specs.FirstFault.{is_token, GivesMeaning, Tells};
 ghost use Rattle.c_lex.specs.IsLexed.{LexesTo};
 ghost use Rattle.c_lex.specs.IsPiece.{NoPiece, IsPiece};
-ghost use Rattle.c_lex.specs.Reading.{fault_of, is_gap, names_with, IsAdded, IsRead, Overflows};
+ghost use Rattle.c_lex.specs.tools.Reading.{fault_of, is_gap, names_with, IsAdded, IsRead, Overflows};
 ghost use Rattle.c_lex.specs.Tokens.{IsKind};
 
 use crate::fault::LexFault;

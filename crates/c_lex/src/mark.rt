@@ -1,7 +1,7 @@
 ghost use Rattle.std.specs.Prelude.{◌≡◌, length, nat_eq};
 ghost use Rattle.std.specs.List.{starts_with};
 ghost use Rattle.c_lex.specs.Words.{look_up};
-ghost use Rattle.c_lex.specs.Scanning.{mark_at};
+ghost use Rattle.c_lex.specs.tools.Scanning.{mark_at};
 
 use crate::token::Mark;
 

@@ -3,7 +3,7 @@ ghost use Rattle.std.specs.Prelude.{◌≡◌, ◌≤◌, length};
 ghost use Rattle.std.specs.List.{prefix_len};
 ghost use Rattle.c_lex.specs.Bytes.{is_white, is_word_byte};
 ghost use Rattle.c_lex.specs.PieceOf.{run_piece};
-ghost use Rattle.c_lex.specs.Scanning.{piece_at};
+ghost use Rattle.c_lex.specs.tools.Scanning.{piece_at};
 
 use crate::comment::{block_comment, line_comment_length};
 use crate::constant::constant_of;

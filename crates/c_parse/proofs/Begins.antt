@@ -9,14 +9,14 @@ use Rattle.c_ast.specs.declared.decl.TypeName.{TypeName}
 use Rattle.c_ast.specs.declared.ident.Ident.{Ident}
 use Rattle.c_ast.specs.declared.expr.UnaryOp.{UnaryOp}
 use Rattle.c_ast.specs.declared.expr.Expr.{Expr}
-use Rattle.parse_laws.specs.Nesting.{May}
-use Rattle.parse_laws.proofs.Steps.{false_true, none_some}
+use Rattle.parse_law.specs.Nesting.{May}
+use Rattle.parse_law.proofs.Steps.{false_true, none_some}
 use Rattle.c_parse.specs.declared.operators.Tier.{Tier}
 use Rattle.c_parse.specs.declared.sorts.OperandStart.{OperandStart}
 use Rattle.c_parse.specs.Symbol.{Symbol, Symbols}
 use Rattle.c_parse.specs.Operators.{unary_op}
-use Rattle.c_parse.specs.Sorts.{operand_start, is_operand, is_operand_by, is_base}
-use Rattle.c_parse.specs.Tokens.{next, kind_of, is_mark}
+use Rattle.c_parse.specs.tools.Sorts.{operand_start, is_operand, is_operand_by, is_base}
+use Rattle.c_parse.specs.tools.Tokens.{next, kind_of, is_mark}
 use Rattle.c_parse.specs.Types.{BaseAt, int, struct, TypeNameAt, type_name}
 use Rattle.c_parse.specs.Exprs.{ExprAt, expr, LevelAt, single, level, UnaryAt, unary, OperandAt, prefixed, cast, suffixed, PostfixAt, postfix, PrimaryAt, numeral, null, variable, called, paren, sizeof, CallAt, no_argument, call}
 use denote.Enum.Bare.{same_true}

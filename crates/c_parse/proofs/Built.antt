@@ -11,7 +11,7 @@ use Rattle.c_ast.specs.declared.program.Field.{Field}
 use Rattle.c_ast.specs.declared.program.Item.{Item}
 use Rattle.c_ast.specs.Leaves.{leaves_of}
 use Rattle.c_ast.specs.Ast.{IsWritten, HasFields, IsBuilt}
-use Rattle.parse_laws.specs.Nesting.{May, Anywhere}
+use Rattle.parse_law.specs.Nesting.{May, Anywhere}
 use Rattle.c_parse.specs.Symbol.{Symbol, Symbols, symbols_of}
 use Rattle.c_parse.specs.Programs.{DeclaratorsAt, FieldAt, FieldsAt, ItemAt, ProgramAt}
 use Rattle.c_parse.specs.Parsed.{IsProgram}

@@ -7,20 +7,20 @@ use Rattle.c_ast.specs.declared.decl.Declarator.{Declarator}
 use Rattle.c_ast.specs.declared.decl.Decl.{Decl}
 use Rattle.c_ast.specs.declared.decl.DeclItem.{DeclItem}
 use Rattle.c_ast.specs.declared.expr.Expr.{Expr}
-use Rattle.parse_laws.specs.Nesting.{May}
-use Rattle.parse_laws.proofs.Forms.{Form, Fits}
-use Rattle.parse_laws.proofs.Bind.{Seq, Leads}
-use Rattle.parse_laws.proofs.Carry.{fits_fewer}
-use Rattle.parse_laws.proofs.Steps.{Any}
+use Rattle.parse_law.specs.Nesting.{May}
+use Rattle.parse_law.proofs.Forms.{Form, Fits}
+use Rattle.parse_law.proofs.Bind.{Seq, Leads}
+use Rattle.parse_law.proofs.Carry.{fits_fewer}
+use Rattle.parse_law.proofs.Steps.{Any}
 use Rattle.c_parse.specs.Symbol.{Symbol, Symbols, mark}
 use Rattle.c_parse.specs.Operators.{tiers}
-use Rattle.c_parse.specs.Tokens.{next, kind_of, is_mark}
+use Rattle.c_parse.specs.tools.Tokens.{next, kind_of, is_mark}
 use Rattle.c_parse.specs.Types.{BaseAt, DeclaratorAt}
 use Rattle.c_parse.specs.Exprs.{ExprAt}
 use Rattle.c_parse.specs.Stmts.{DeclItemAt, plain, valued, DeclItemsAt, last, more, DeclAt, decl}
-use Rattle.c_parse.specs.TypeParser.{has}
-use Rattle.c_parse.specs.ExprParser.{subject, unary_of}
-use Rattle.c_parse.specs.StmtParser as spec
+use Rattle.c_parse.specs.tools.TypeParser.{has}
+use Rattle.c_parse.specs.tools.ExprParser.{subject, unary_of}
+use Rattle.c_parse.specs.tools.StmtParser as spec
 use Rattle.c_parse.proofs.Parts.{Part, Gives, gives, given, gives_part, seq, narrow, widen, relead, restate, Branch, branch, dispatch_empty}
 use Rattle.c_parse.proofs.TokenParts.{MarkAt, marked, mark_any, mark_part, AnyToken, Only, only_mark}
 use Rattle.c_parse.proofs.Lists.{others_part, Others, Tail, no_tail, tail}

@@ -2,12 +2,12 @@
 use Rattle.std.proofs.Common.{◌≡◌, ℕ, zero, suc, ◌+◌, ◌-◌, ◌<◌, ◌≤◌, Bool, true, false, if◌then◌else◌, nat_lt, Option, length, refl, ap, ◌∙◌, arith}
 use Rattle.std.proofs.Common.{ltb-false}
 use Rattle.c_lex.specs.declared.token.Kind.{Kind}
-use Rattle.parse_laws.specs.Parsing.{fault, unexpected, deep, refuse, rising}
+use Rattle.parse_law.specs.tools.Parsing.{fault, unexpected, deep, refuse, rising}
 use Rattle.c_parse.specs.Symbol.{Symbols}
-use Rattle.c_parse.specs.Tokens.{P, next, kind_of}
-use Rattle.c_parse.specs.Sorts.{is_operand, is_stmt}
-use Rattle.c_parse.specs.ExprParser.{entering, unary_of, operand, subject}
-use Rattle.c_parse.specs.StmtParser.{statement, stmt}
+use Rattle.c_parse.specs.tools.Tokens.{P, next, kind_of}
+use Rattle.c_parse.specs.tools.Sorts.{is_operand, is_stmt}
+use Rattle.c_parse.specs.tools.ExprParser.{entering, unary_of, operand, subject}
+use Rattle.c_parse.specs.tools.StmtParser.{statement, stmt}
 use Rattle.c_parse.specs.NestingLimit.{nesting_limit}
 
 below : (m n : ℕ) → m < n → nat_lt m n ≡ true

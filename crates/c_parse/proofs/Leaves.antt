@@ -23,7 +23,7 @@ use Rattle.c_ast.specs.declared.stmt.Stmt.{Stmt}
 use Rattle.c_ast.specs.declared.program.Field.{Field}
 use Rattle.c_ast.specs.declared.program.Item.{Item}
 use Rattle.c_ast.specs.Leaves.{Leaf, name, number, Leaves, of_ident, of_all, of_option, of_base, of_type, of_result, of_length, of_brackets, of_declarator, of_param, of_proto_param, of_params, of_proto_params, of_expr, of_simple, of_decl_item, of_decl, of_start, of_block_item, of_stmt, of_block, of_field, of_item, leaves_of}
-use Rattle.parse_laws.specs.Nesting.{May}
+use Rattle.parse_law.specs.Nesting.{May}
 use Rattle.c_parse.specs.declared.operators.Tier.{Tier}
 use Rattle.c_parse.specs.Symbol.{Symbol, Symbols}
 use Rattle.c_parse.specs.Types as t

@@ -7,20 +7,20 @@ use Rattle.c_lex.specs.declared.token.Kind.{Kind}
 use Rattle.c_ast.specs.declared.expr.BinaryOp.{BinaryOp}
 use Rattle.c_ast.specs.declared.expr.Expr.{Expr}
 use Rattle.c_parse.specs.Nodes as tree
-use Rattle.parse_laws.specs.Parsing.{and_then, fault, deep, ◌>>=◌, ◌<$>◌, pure, accept, rising, repeat, joined, operand, operators, skip}
-use Rattle.parse_laws.specs.Nesting.{May}
-use Rattle.parse_laws.proofs.Forms.{Form, Completes, Law}
-use Rattle.parse_laws.proofs.Bind.{Seq}
-use Rattle.parse_laws.proofs.Steps.{fits_any, none_some, some_is, false_true}
-use Rattle.parse_laws.proofs.Binary.{binary_law}
+use Rattle.parse_law.specs.tools.Parsing.{and_then, fault, deep, ◌>>=◌, ◌<$>◌, pure, accept, rising, repeat, joined, operand, operators, skip}
+use Rattle.parse_law.specs.Nesting.{May}
+use Rattle.parse_law.proofs.Forms.{Form, Completes, Law}
+use Rattle.parse_law.proofs.Bind.{Seq}
+use Rattle.parse_law.proofs.Steps.{fits_any, none_some, some_is, false_true}
+use Rattle.parse_law.proofs.Binary.{binary_law}
 use Rattle.c_parse.specs.declared.operators.Tier.{Tier}
 use Rattle.c_parse.specs.contracts.operators.Tier as tier_type
 use Rattle.c_parse.specs.Symbol.{Symbol, Symbols, mark, number}
 use Rattle.c_parse.specs.Operators.{binary_op, tiers}
-use Rattle.c_parse.specs.Sorts.{is_suffix}
-use Rattle.c_parse.specs.Tokens.{P, want, want_by, is_mark}
+use Rattle.c_parse.specs.tools.Sorts.{is_suffix}
+use Rattle.c_parse.specs.tools.Tokens.{P, want, want_by, is_mark}
 use Rattle.c_parse.specs.Exprs.{ExprAt, expr, LevelAt, single, level, OperatorsAt, no_operator, binary as binary_at', UnaryAt, unary, OperandAt, suffixed, postfix, no_suffix, numeral}
-use Rattle.c_parse.specs.ExprParser as spec
+use Rattle.c_parse.specs.tools.ExprParser as spec
 use Rattle.c_parse.proofs.Parts.{Part, Gives, gives, gives_part, seq, restate, accepts}
 use Rattle.c_parse.proofs.TokenParts.{AnyToken, line_one, located_part}
 use Rattle.c_parse.proofs.TypeLaws.{Not}

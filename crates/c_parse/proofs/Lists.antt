@@ -2,16 +2,16 @@
 use Rattle.std.proofs.Common.{◌≡◌, ℕ, ◌⊎◌, inl, inr, Bool, true, false, List, [], ◌∷◌, refl}
 use Rattle.dfi_base.specs.declared.numbers.Line.{Line}
 use Rattle.c_lex.specs.declared.token.Mark.{Mark}
-use Rattle.parse_laws.specs.Parsing.{◌>>=◌, many}
-use Rattle.parse_laws.specs.Nesting.{May}
-use Rattle.parse_laws.proofs.Forms.{Form, Follow, Law}
-use Rattle.parse_laws.proofs.Bind.{Seq}
-use Rattle.parse_laws.proofs.Carry.{fits_fewer}
-use Rattle.parse_laws.proofs.Steps.{fits_any}
-use Rattle.parse_laws.proofs.Repeat.{many_law, many_leads, many_completes, found_law, Takes, takes_first}
+use Rattle.parse_law.specs.tools.Parsing.{◌>>=◌, many}
+use Rattle.parse_law.specs.Nesting.{May}
+use Rattle.parse_law.proofs.Forms.{Form, Follow, Law}
+use Rattle.parse_law.proofs.Bind.{Seq}
+use Rattle.parse_law.proofs.Carry.{fits_fewer}
+use Rattle.parse_law.proofs.Steps.{fits_any}
+use Rattle.parse_law.proofs.Repeat.{many_law, many_leads, many_completes, found_law, Takes, takes_first}
 use Rattle.c_parse.specs.Symbol.{Symbol, Symbols, mark}
-use Rattle.c_parse.specs.Tokens.{P, want, mark_at}
-use Rattle.c_parse.specs.TypeParser.{has, after_comma}
+use Rattle.c_parse.specs.tools.Tokens.{P, want, mark_at}
+use Rattle.c_parse.specs.tools.TypeParser.{has, after_comma}
 use Rattle.c_parse.proofs.Parts.{Part, seq, takes_want}
 use Rattle.c_parse.proofs.TokenParts.{MarkAt, marked, mark_part, same_mark_self}
 

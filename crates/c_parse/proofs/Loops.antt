@@ -1,9 +1,9 @@
 -- A loop of the code takes the turns of its definition one by one.
 use Rattle.std.proofs.Common.{◌≡◌, ℕ, suc, ◌+◌, ◌-◌, ◌<◌, Bool, false, if◌then◌else◌, Option, None, [], ◌∷◌, length, refl, sym, ap, ◌∙◌, arith}
 use Rattle.c_lex.specs.declared.token.Kind.{Kind}
-use Rattle.parse_laws.specs.Parsing.{unexpected, Answer, fault, ◌>>=◌, pure, turns, repeat, peek}
+use Rattle.parse_law.specs.tools.Parsing.{unexpected, Answer, fault, ◌>>=◌, pure, turns, repeat, peek}
 use Rattle.c_parse.specs.Symbol.{Symbol, Symbols}
-use Rattle.c_parse.specs.Tokens.{P, next, kind_of, goes}
+use Rattle.c_parse.specs.tools.Tokens.{P, next, kind_of, goes}
 
 module _ {X : Type 0} (sort : Option Kind → Bool) (none : sort None ≡ false) (part : X → P X) where
   abbrev pub by_test : ℕ → X → Symbols → Bool → Answer Symbol X

@@ -11,18 +11,18 @@ use Rattle.c_ast.specs.declared.stmt.Block.{Block}
 use Rattle.c_ast.specs.declared.stmt.BlockItem.{BlockItem}
 use Rattle.c_ast.specs.declared.stmt.Stmt.{Stmt}
 use Rattle.c_ast.specs.declared.program.Item.{Item}
-use Rattle.parse_laws.specs.Nesting.{Anywhere}
-use Rattle.parse_laws.specs.FirstFault.{Continues}
-use Rattle.parse_laws.specs.Tells.{HasOneAnswer}
-use Rattle.parse_laws.proofs.Verdicts.{continues_prefix}
-use Rattle.parse_laws.proofs.One.{Bounded, one_tree, one_answer}
+use Rattle.parse_law.specs.Nesting.{Anywhere}
+use Rattle.parse_law.specs.FirstFault.{Continues}
+use Rattle.parse_law.specs.Tells.{HasOneAnswer}
+use Rattle.parse_law.proofs.Verdicts.{continues_prefix}
+use Rattle.parse_law.proofs.One.{Bounded, one_tree, one_answer}
 use Rattle.c_parse.specs.declared.operators.Tier.{Tier}
 use Rattle.c_parse.specs.Symbol.{Symbols}
 use Rattle.c_parse.specs.Exprs as x
 use Rattle.c_parse.specs.Stmts as st
 use Rattle.c_parse.specs.Programs as p
 use Rattle.c_parse.specs.Programs.{ProgramAt}
-use Rattle.c_parse.specs.ProgramParser as spec
+use Rattle.c_parse.specs.tools.ProgramParser as spec
 use Rattle.c_parse.proofs.ProgramLaws.{program_law, program_tells}
 use Rattle.c_parse.specs.NestingLimit.{nesting_limit}
 

@@ -11,10 +11,10 @@ use Rattle.c_ast.specs.declared.stmt.Block.{Block}
 use Rattle.c_ast.specs.declared.stmt.Stmt.{Stmt, roll-Stmt, map-Stmt, fold-Stmt, fold-roll-Stmt}
 use Rattle.c_ast.specs.declared.stmt.Stmt.TheOpen.{Stmt-F}
 use Rattle.c_ast.specs.declared.stmt.Stmt.TheVariants as s
-use Rattle.parse_laws.specs.Nesting.{May}
-use Rattle.parse_laws.proofs.Steps.{false_true}
+use Rattle.parse_law.specs.Nesting.{May}
+use Rattle.parse_law.proofs.Steps.{false_true}
 use Rattle.c_parse.specs.Symbol.{Symbol, Symbols}
-use Rattle.c_parse.specs.Tokens.{is_word}
+use Rattle.c_parse.specs.tools.Tokens.{is_word}
 use Rattle.c_parse.specs.Stmts.{NoElse, IsNotElse, StmtAt, stmt, StatementAt, braced, empty, simple, return, break, continue, if_alone, if_else, while, for, par}
 use Rattle.c_parse.proofs.Begins.{Begins}
 use denote.Enum.Bare.{same_true}

@@ -9,23 +9,23 @@ use Rattle.c_ast.specs.declared.decl.TypeName.{TypeName}
 use Rattle.c_ast.specs.declared.expr.UnaryOp.{UnaryOp}
 use Rattle.c_ast.specs.declared.expr.Expr.{Expr}
 use Rattle.c_parse.specs.Nodes as tree
-use Rattle.parse_laws.specs.Parsing.{Fault, unexpected, done, rising, refuse}
-use Rattle.parse_laws.specs.Nesting.{May}
-use Rattle.parse_laws.proofs.Forms.{Form, Follow, Fits}
-use Rattle.parse_laws.proofs.Bind.{Seq}
-use Rattle.parse_laws.proofs.Steps.{none_some, false_true}
-use Rattle.parse_laws.proofs.Heads.{done_fault}
-use Rattle.parse_laws.proofs.Repeat.{Takes, takes_rising}
+use Rattle.parse_law.specs.tools.Parsing.{Fault, unexpected, done, rising, refuse}
+use Rattle.parse_law.specs.Nesting.{May}
+use Rattle.parse_law.proofs.Forms.{Form, Follow, Fits}
+use Rattle.parse_law.proofs.Bind.{Seq}
+use Rattle.parse_law.proofs.Steps.{none_some, false_true}
+use Rattle.parse_law.proofs.Heads.{done_fault}
+use Rattle.parse_law.proofs.Repeat.{Takes, takes_rising}
 use Rattle.c_parse.specs.declared.subject.Subject.{Subject}
 use Rattle.c_parse.specs.declared.sorts.OperandStart.{OperandStart}
 use Rattle.c_parse.specs.declared.sorts.SuffixStart.{SuffixStart}
 use Rattle.c_parse.specs.Symbol.{Symbol, Symbols, word, mark, name, number}
 use Rattle.c_parse.specs.Operators.{unary_op, tiers}
-use Rattle.c_parse.specs.Sorts.{operand_start, suffix_start, is_operand, is_suffix, is_base}
-use Rattle.c_parse.specs.Tokens.{P, next, kind_of, choose, located, located_by, line_next, is_mark, goes}
+use Rattle.c_parse.specs.tools.Sorts.{operand_start, suffix_start, is_operand, is_suffix, is_base}
+use Rattle.c_parse.specs.tools.Tokens.{P, next, kind_of, choose, located, located_by, line_next, is_mark, goes}
 use Rattle.c_parse.specs.Types.{TypeNameAt}
 use Rattle.c_parse.specs.Exprs.{ExprAt, ArgumentsAt, last_argument, more_arguments, SuffixesAt, no_suffix, index, field, arrow, UnaryAt}
-use Rattle.c_parse.specs.ExprParser as spec
+use Rattle.c_parse.specs.tools.ExprParser as spec
 use Rattle.c_parse.proofs.Parts.{Gives, gives, given, Reads, reads, Void}
 use Rattle.c_parse.proofs.TokenParts.{MarkAt, marked, WordAt, worded, IdentAt, named, NumberAt, numbered}
 use Rattle.c_parse.proofs.Lists.{Others, Tail, no_tail, tail}

@@ -8,22 +8,22 @@ use Rattle.c_ast.specs.declared.ident.Ident.{Ident}
 use Rattle.c_ast.specs.declared.expr.UnaryOp.{UnaryOp}
 use Rattle.c_ast.specs.declared.expr.Expr.{Expr}
 use Rattle.c_parse.specs.Nodes as tree
-use Rattle.parse_laws.specs.Parsing.{unexpected, peek, turns, repeat}
-use Rattle.parse_laws.specs.Nesting.{May}
-use Rattle.parse_laws.proofs.Forms.{Completes, Law}
-use Rattle.parse_laws.proofs.Steps.{Any, fits_any, false_true}
-use Rattle.parse_laws.proofs.Heads.{rise}
-use Rattle.parse_laws.proofs.Repeat.{repeat_law, Takes, takes_rising}
+use Rattle.parse_law.specs.tools.Parsing.{unexpected, peek, turns, repeat}
+use Rattle.parse_law.specs.Nesting.{May}
+use Rattle.parse_law.proofs.Forms.{Completes, Law}
+use Rattle.parse_law.proofs.Steps.{Any, fits_any, false_true}
+use Rattle.parse_law.proofs.Heads.{rise}
+use Rattle.parse_law.proofs.Repeat.{repeat_law, Takes, takes_rising}
 use Rattle.c_parse.specs.declared.subject.Subject.{Subject}
 use Rattle.c_parse.specs.declared.sorts.OperandStart.{OperandStart}
 use Rattle.c_parse.specs.declared.sorts.SuffixStart.{SuffixStart}
 use Rattle.c_parse.specs.Symbol.{Symbol, Symbols, mark, name}
 use Rattle.c_parse.specs.Operators.{tiers}
-use Rattle.c_parse.specs.Sorts.{operand_start, suffix_start, is_suffix, is_base}
-use Rattle.c_parse.specs.Tokens.{P, kind_of, choose, want, is_mark, mark_at, word_at, ident_at, number_at, goes}
+use Rattle.c_parse.specs.tools.Sorts.{operand_start, suffix_start, is_suffix, is_base}
+use Rattle.c_parse.specs.tools.Tokens.{P, kind_of, choose, want, is_mark, mark_at, word_at, ident_at, number_at, goes}
 use Rattle.c_parse.specs.Exprs.{no_suffix}
-use Rattle.c_parse.specs.TypeParser.{has}
-use Rattle.c_parse.specs.ExprParser as spec
+use Rattle.c_parse.specs.tools.TypeParser.{has}
+use Rattle.c_parse.specs.tools.ExprParser as spec
 use Rattle.c_parse.proofs.Parts.{Part, gives_part, seq, takes_seq, takes_want, widen, restate, reads_part, Branch, branch, refuses, dispatch, dispatch_empty}
 use Rattle.c_parse.proofs.TokenParts.{mark_any, mark_part, word_any, ident_any, number_any, AnyToken, line_one, Only, only_mark, located_part}
 use Rattle.c_parse.proofs.Lists.{others_part}

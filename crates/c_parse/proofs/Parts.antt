@@ -1,14 +1,14 @@
 -- A form with its parser, as one part of a larger form.
 use Rattle.std.proofs.Common.{◌≡◌, ℕ, Option, Some, None, List, [], ◌∷◌, ◌++◌, refl, sym, subst, ◌∙◌, append_assoc}
-use Rattle.parse_laws.specs.Parsing.{unexpected, done, fault, Parser, ◌>>=◌, pure, refuse, accept, accept_by, skip}
-use Rattle.parse_laws.specs.Nesting.{May, Anywhere}
-use Rattle.parse_laws.proofs.Forms.{Form, Follow, Fits, Free, Completes, Judge, Law}
-use Rattle.parse_laws.proofs.Bind.{Seq, Leads, free_last, bind, bind_good}
-use Rattle.parse_laws.proofs.Carry.{fits_fewer}
-use Rattle.parse_laws.proofs.Steps.{Any, convert, pure_law, Pure, Token, accept_law}
-use Rattle.parse_laws.proofs.Repeat.{Takes, takes_first, takes_accept}
-use Rattle.parse_laws.proofs.Heads.{kept_at, refused, wants, heads, heads_or_empty}
-use Rattle.c_parse.specs.Tokens.{next, want, want_by}
+use Rattle.parse_law.specs.tools.Parsing.{unexpected, done, fault, Parser, ◌>>=◌, pure, refuse, accept, accept_by, skip}
+use Rattle.parse_law.specs.Nesting.{May, Anywhere}
+use Rattle.parse_law.proofs.Forms.{Form, Follow, Fits, Free, Completes, Judge, Law}
+use Rattle.parse_law.proofs.Bind.{Seq, Leads, free_last, bind, bind_good}
+use Rattle.parse_law.proofs.Carry.{fits_fewer}
+use Rattle.parse_law.proofs.Steps.{Any, convert, pure_law, Pure, Token, accept_law}
+use Rattle.parse_law.proofs.Repeat.{Takes, takes_first, takes_accept}
+use Rattle.parse_law.proofs.Heads.{kept_at, refused, wants, heads, heads_or_empty}
+use Rattle.c_parse.specs.tools.Tokens.{next, want, want_by}
 
 module _ {T : Type 0} where
   -- nothing is read

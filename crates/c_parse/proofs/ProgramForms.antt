@@ -19,19 +19,19 @@ use Rattle.c_ast.specs.declared.stmt.Block.{Block}
 use Rattle.c_ast.specs.declared.stmt.Stmt.{Stmt}
 use Rattle.c_ast.specs.declared.program.Field.{Field}
 use Rattle.c_ast.specs.declared.program.Item.{Item}
-use Rattle.parse_laws.specs.Nesting.{May}
-use Rattle.parse_laws.proofs.Forms.{Form}
-use Rattle.parse_laws.proofs.Bind.{Seq}
-use Rattle.parse_laws.proofs.Steps.{false_true, none_some, some_is}
+use Rattle.parse_law.specs.Nesting.{May}
+use Rattle.parse_law.proofs.Forms.{Form}
+use Rattle.parse_law.proofs.Bind.{Seq}
+use Rattle.parse_law.proofs.Steps.{false_true, none_some, some_is}
 use Rattle.c_parse.specs.declared.sorts.ItemStart.{ItemStart}
 use Rattle.c_parse.specs.Symbol.{Symbol, Symbols, mark, name}
-use Rattle.c_parse.specs.Sorts.{is_base, item_start}
-use Rattle.c_parse.specs.Tokens.{next, kind_of, is_mark, goes}
+use Rattle.c_parse.specs.tools.Sorts.{is_base, item_start}
+use Rattle.c_parse.specs.tools.Tokens.{next, kind_of, is_mark, goes}
 use Rattle.c_parse.specs.Types.{BaseAt, int, struct, StarsAt, no_star, star, no_length, length as one_length, ResultAt, value, void, DeclaratorAt, declarator, NameAt, ParamAt, param, ProtoParamAt, ParamsAt, ProtoParamsAt, ParameterListAt, ProtoListAt}
 use Rattle.c_parse.specs.Stmts.{DeclItemAt, plain, valued, BlockAt}
 use Rattle.c_parse.specs.Programs.{DeclaratorsAt, last, more, FieldAt, field, FieldsAt, ItemAt}
-use Rattle.c_parse.specs.StmtParser.{is_open}
-use Rattle.c_parse.specs.ProgramParser as spec
+use Rattle.c_parse.specs.tools.StmtParser.{is_open}
+use Rattle.c_parse.specs.tools.ProgramParser as spec
 use Rattle.c_parse.proofs.Parts.{Gives, gives, given, Void}
 use Rattle.c_parse.proofs.TokenParts.{MarkAt, marked, WordAt, worded, IdentAt, named, AnyToken}
 use Rattle.c_parse.proofs.Lists.{Others, Tail, no_tail, tail}

@@ -14,27 +14,27 @@ use Rattle.c_ast.specs.declared.decl.Params.{Params}
 use Rattle.c_ast.specs.declared.decl.ProtoParams.{ProtoParams}
 use Rattle.c_ast.specs.declared.program.Field.{Field}
 use Rattle.c_ast.specs.declared.program.Item.{Item}
-use Rattle.parse_laws.specs.Parsing.{fault, unexpected, and_then, Parser, ◌>>=◌, ◌>>◌, pure, refuse, many, whole}
-use Rattle.parse_laws.specs.Nesting.{May}
-use Rattle.parse_laws.specs.Tells.{Tells}
-use Rattle.parse_laws.proofs.Forms.{Form, Completes, Law}
-use Rattle.parse_laws.proofs.Bind.{Seq}
-use Rattle.parse_laws.proofs.Steps.{Any, Nothing, fits_any, nil_cons, false_true, convert}
-use Rattle.parse_laws.proofs.Repeat.{Takes, found_law}
-use Rattle.parse_laws.proofs.Verdicts.{All, Whole, whole_law, tells}
+use Rattle.parse_law.specs.tools.Parsing.{fault, unexpected, and_then, Parser, ◌>>=◌, ◌>>◌, pure, refuse, many, whole}
+use Rattle.parse_law.specs.Nesting.{May}
+use Rattle.parse_law.specs.Tells.{Tells}
+use Rattle.parse_law.proofs.Forms.{Form, Completes, Law}
+use Rattle.parse_law.proofs.Bind.{Seq}
+use Rattle.parse_law.proofs.Steps.{Any, Nothing, fits_any, nil_cons, false_true, convert}
+use Rattle.parse_law.proofs.Repeat.{Takes, found_law}
+use Rattle.parse_law.proofs.Verdicts.{All, Whole, whole_law, tells}
 use Rattle.c_parse.specs.declared.sorts.BaseWord.{BaseWord}
 use Rattle.c_parse.specs.declared.sorts.ItemStart.{ItemStart}
 use Rattle.c_parse.specs.Symbol.{Symbol, Symbols, word, mark, name}
-use Rattle.c_parse.specs.Sorts.{base_word, item_start}
-use Rattle.c_parse.specs.Tokens.{next, kind_of, want, is_mark, mark_at, word_at, goes}
+use Rattle.c_parse.specs.tools.Sorts.{base_word, item_start}
+use Rattle.c_parse.specs.tools.Tokens.{next, kind_of, want, is_mark, mark_at, word_at, goes}
 use Rattle.c_parse.specs.Types.{no_star, no_length, length as one_length, void, ProtoListAt}
 use Rattle.c_parse.specs.Programs.{ItemAt, ProgramAt}
-use Rattle.c_parse.specs.TypeParser.{has}
-use Rattle.c_parse.specs.StmtParser.{is_open, stmt}
-use Rattle.parse_laws.specs.Parsing as parsing
-use Rattle.c_parse.specs.TypeParser as types
-use Rattle.c_parse.specs.StmtParser as statements
-use Rattle.c_parse.specs.ProgramParser as spec
+use Rattle.c_parse.specs.tools.TypeParser.{has}
+use Rattle.c_parse.specs.tools.StmtParser.{is_open, stmt}
+use Rattle.parse_law.specs.tools.Parsing as parsing
+use Rattle.c_parse.specs.tools.TypeParser as types
+use Rattle.c_parse.specs.tools.StmtParser as statements
+use Rattle.c_parse.specs.tools.ProgramParser as spec
 use Rattle.c_parse.proofs.Parts.{Part, Gives, gives, gives_part, seq, takes_seq, takes_want, restate, Branch, branch, refuses, dispatch}
 use Rattle.c_parse.proofs.TokenParts.{MarkAt, marked, mark_any, mark_part, word_any, ident_any, ident_part, AnyToken, line_one, Only, only_mark, located_part}
 use Rattle.c_parse.proofs.Lists.{many_part, others_part, Others, no_tail, tail}

@@ -7,14 +7,14 @@ use Rattle.c_ast.specs.declared.decl.Base.{Base}
 use Rattle.c_ast.specs.declared.expr.BinaryOp.{BinaryOp}
 use Rattle.c_ast.specs.declared.expr.Expr.{Expr}
 use Rattle.c_ast.specs.declared.program.Item.{Item}
-use Rattle.parse_laws.specs.Parsing as parsing
+use Rattle.parse_law.specs.tools.Parsing as parsing
 use Rattle.c_parse.specs.Nodes as tree
 use Rattle.c_parse.specs.Symbol.{Symbols, word, mark, name, number}
-use Rattle.c_parse.specs.Tokens.{want}
-use Rattle.c_parse.specs.TypeParser as types
-use Rattle.c_parse.specs.ProgramParser as programs
-use Rattle.c_parse.specs.StmtParser as stmts
-use Rattle.c_parse.specs.ExprParser as exprs
+use Rattle.c_parse.specs.tools.Tokens.{want}
+use Rattle.c_parse.specs.tools.TypeParser as types
+use Rattle.c_parse.specs.tools.ProgramParser as programs
+use Rattle.c_parse.specs.tools.StmtParser as stmts
+use Rattle.c_parse.specs.tools.ExprParser as exprs
 use Rattle.c_parse.specs.Parsed.{IsProgram, IsUnexpected}
 use Rattle.c_parse.proofs.ProgramLaws.{program_tells}
 

@@ -8,28 +8,28 @@ use Rattle.c_ast.specs.declared.expr.Expr.{Expr}
 use Rattle.c_parse.specs.Nodes as tree
 use Rattle.c_ast.specs.declared.stmt.AssignOp.{AssignOp}
 use Rattle.c_ast.specs.declared.stmt.Simple.{Simple}
-use Rattle.parse_laws.specs.Parsing.{unexpected, and_then}
-use Rattle.parse_laws.specs.Nesting.{May}
-use Rattle.parse_laws.proofs.Forms.{Form, Fits, Completes}
-use Rattle.parse_laws.proofs.Bind.{Seq, Leads}
-use Rattle.parse_laws.proofs.Carry.{fits_fewer}
-use Rattle.parse_laws.proofs.Steps.{Any, false_true, none_some}
+use Rattle.parse_law.specs.tools.Parsing.{unexpected, and_then}
+use Rattle.parse_law.specs.Nesting.{May}
+use Rattle.parse_law.proofs.Forms.{Form, Fits, Completes}
+use Rattle.parse_law.proofs.Bind.{Seq, Leads}
+use Rattle.parse_law.proofs.Carry.{fits_fewer}
+use Rattle.parse_law.proofs.Steps.{Any, false_true, none_some}
 use Rattle.c_parse.specs.declared.subject.Subject.{Subject}
 use Rattle.c_parse.specs.declared.operators.Tier.{Tier}
 use Rattle.c_parse.specs.declared.sorts.SubjectEnd.{SubjectEnd}
 use Rattle.c_parse.specs.Symbol.{Symbol, Symbols, mark}
 use Rattle.c_parse.specs.Operators.{tiers, assign_op}
-use Rattle.c_parse.specs.Sorts.{is_operand, subject_end}
-use Rattle.c_parse.specs.Tokens.{next, kind_of, want, mark_at}
+use Rattle.c_parse.specs.tools.Sorts.{is_operand, subject_end}
+use Rattle.c_parse.specs.tools.Tokens.{next, kind_of, want, mark_at}
 use Rattle.c_parse.specs.Exprs.{ExprAt, UnaryAt, unary, PostfixAt, CallAt, no_argument, call}
 use Rattle.c_parse.specs.Stmts.{SimpleAt, assign, increment, decrement, pre_increment, pre_decrement, call as call_alone}
-use Rattle.c_parse.specs.ExprParser.{expr_of}
-use Rattle.c_parse.specs.StmtParser as spec
+use Rattle.c_parse.specs.tools.ExprParser.{expr_of}
+use Rattle.c_parse.specs.tools.StmtParser as spec
 use Rattle.c_parse.proofs.Parts.{Part, Gives, gives, given, gives_part, seq, takes_seq, takes_want, narrow, widen, relead, restate, Reads, reads, reads_part, Branch, branch, refuses, Void, dispatch, dispatch_empty}
 use Rattle.c_parse.proofs.TokenParts.{MarkAt, marked, mark_any, AnyToken, line_one, located_part}
 use Rattle.c_parse.proofs.LevelLaws.{AfterOperand, AfterLevel, zero_expr, zero_unary, zero_symbol, zero_tree, Unaries}
 use Rattle.c_parse.proofs.Begins.{Begins}
-use Rattle.parse_laws.proofs.Repeat.{Takes}
+use Rattle.parse_law.proofs.Repeat.{Takes}
 use Rattle.c_parse.proofs.OperandForms.{takes_located, takes_choose, takes_refuse, empty, some, SubjectAt, of_call, Subjects}
 use Rattle.c_parse.proofs.SubjectLaws.{Entered, Then, takes_subject, IsPostfix, postfix_subject, subject_postfix, operand_of, operand_subject, subject_begins, subject_none}
 use Rattle.c_parse.proofs.DeclLaws.{E, expr_at_part, unary_at_part, operand_at_part}

@@ -10,24 +10,24 @@ use Rattle.c_ast.specs.declared.stmt.Block.{Block}
 use Rattle.c_ast.specs.declared.stmt.BlockItem.{BlockItem}
 use Rattle.c_ast.specs.declared.stmt.Stmt.{Stmt}
 use Rattle.c_ast.specs.declared.stmt.Stmt.TheVariants as s
-use Rattle.parse_laws.specs.Parsing.{unexpected}
-use Rattle.parse_laws.specs.Nesting.{May}
-use Rattle.parse_laws.proofs.Forms.{Form, Follow, Fits}
-use Rattle.parse_laws.proofs.Bind.{Seq, Leads}
-use Rattle.parse_laws.proofs.Steps.{Any, false_true}
-use Rattle.parse_laws.proofs.Repeat.{Takes}
+use Rattle.parse_law.specs.tools.Parsing.{unexpected}
+use Rattle.parse_law.specs.Nesting.{May}
+use Rattle.parse_law.proofs.Forms.{Form, Follow, Fits}
+use Rattle.parse_law.proofs.Bind.{Seq, Leads}
+use Rattle.parse_law.proofs.Steps.{Any, false_true}
+use Rattle.parse_law.proofs.Repeat.{Takes}
 use Rattle.c_parse.specs.declared.sorts.StmtStart.{StmtStart}
 use Rattle.c_parse.specs.Symbol.{Symbol, Symbols, word, mark}
-use Rattle.c_parse.specs.Sorts.{base_word, is_base, is_stmt, is_stmt_by, stmt_start}
-use Rattle.c_parse.specs.Tokens.{next, kind_of, is_mark, is_word, word_at, goes}
+use Rattle.c_parse.specs.tools.Sorts.{base_word, is_base, is_stmt, is_stmt_by, stmt_start}
+use Rattle.c_parse.specs.tools.Tokens.{next, kind_of, is_mark, is_word, word_at, goes}
 use Rattle.c_parse.specs.Stmts.{StmtAt, stmt, StatementAt, braced, empty, simple, return, break, continue, if_alone, if_else, while, for, par, NoElse, IsNotElse, BlockAt, block, BlockItemsAt, no_item, declaration, statement, BranchesAt, no_branch, branch as one_branch}
-use Rattle.c_parse.specs.StmtParser as spec
+use Rattle.c_parse.specs.tools.StmtParser as spec
 use Rattle.c_parse.proofs.Parts.{Gives, gives, given, gives_part, seq, takes_seq, takes_want}
 use Rattle.c_parse.proofs.TokenParts.{MarkAt, marked, WordAt, worded, ident_any, AnyToken}
 use Rattle.c_parse.proofs.Begins.{Begins}
 use Rattle.c_parse.proofs.DeclLaws.{Decls, decl_rest_part, item_part as item_part'}
 use Rattle.c_parse.proofs.OperandForms.{takes_choose, takes_refuse}
-use Rattle.c_parse.specs.TypeParser.{base, base_by}
+use Rattle.c_parse.specs.tools.TypeParser.{base, base_by}
 use Rattle.c_parse.specs.declared.sorts.BaseWord.{BaseWord}
 use Rattle.c_ast.specs.declared.decl.Base.{Base}
 use Rattle.c_parse.proofs.OpenIf.{ends_open, open_if, not_before_else}

@@ -9,19 +9,19 @@ use Rattle.c_ast.specs.declared.stmt.Simple.{Simple}
 use Rattle.c_ast.specs.declared.stmt.ForStart.{ForStart}
 use Rattle.c_ast.specs.declared.stmt.Stmt.{Stmt}
 use Rattle.c_ast.specs.declared.stmt.Stmt.TheVariants as s
-use Rattle.parse_laws.specs.Parsing.{unexpected, fault, deep, refuse}
-use Rattle.parse_laws.specs.Nesting.{May}
-use Rattle.parse_laws.proofs.Forms.{Free, Completes, Law}
-use Rattle.parse_laws.proofs.Bind.{free_last}
-use Rattle.parse_laws.proofs.Steps.{false_true}
-use Rattle.parse_laws.proofs.Heads.{level_law}
-use Rattle.parse_laws.proofs.Repeat.{Takes}
+use Rattle.parse_law.specs.tools.Parsing.{unexpected, fault, deep, refuse}
+use Rattle.parse_law.specs.Nesting.{May}
+use Rattle.parse_law.proofs.Forms.{Free, Completes, Law}
+use Rattle.parse_law.proofs.Bind.{free_last}
+use Rattle.parse_law.proofs.Steps.{false_true}
+use Rattle.parse_law.proofs.Heads.{level_law}
+use Rattle.parse_law.proofs.Repeat.{Takes}
 use Rattle.c_parse.specs.Symbol.{Symbol, Symbols, mark}
-use Rattle.c_parse.specs.Sorts.{is_stmt, is_operand}
-use Rattle.c_parse.specs.Tokens.{P, goes}
+use Rattle.c_parse.specs.tools.Sorts.{is_stmt, is_operand}
+use Rattle.c_parse.specs.tools.Tokens.{P, goes}
 use Rattle.c_parse.specs.Stmts.{StmtAt, stmt, StatementAt, braced, empty, simple, return, break, continue, if_alone, while, for, par, block, no_item, no_branch, assign, pre_increment, pre_decrement, OptionalExprAt, OptionalSimpleAt, ForStartAt}
-use Rattle.c_parse.specs.ExprParser.{expr_of, entering}
-use Rattle.c_parse.specs.StmtParser as spec
+use Rattle.c_parse.specs.tools.ExprParser.{expr_of, entering}
+use Rattle.c_parse.specs.tools.StmtParser as spec
 use Rattle.c_parse.proofs.TokenParts.{line_one}
 use Rattle.c_parse.proofs.LevelLaws.{zero_unary, zero_expr, zero_symbol, zero_tree}
 use Rattle.c_parse.proofs.OperandForms.{Subjects, takes_entering, takes_refuse}

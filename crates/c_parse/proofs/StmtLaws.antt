@@ -9,20 +9,20 @@ use Rattle.c_ast.specs.declared.stmt.Block.{Block}
 use Rattle.c_ast.specs.declared.stmt.BlockItem.{BlockItem}
 use Rattle.c_ast.specs.declared.stmt.Stmt.{Stmt}
 use Rattle.c_ast.specs.declared.stmt.Stmt.TheVariants as s
-use Rattle.parse_laws.specs.Parsing.{fault, done, unexpected, and_then, ◌>>=◌, pure}
-use Rattle.parse_laws.specs.Nesting.{May}
-use Rattle.parse_laws.proofs.Forms.{Form, Alike, Completes, Done, Judge, Law}
-use Rattle.parse_laws.proofs.Bind.{Seq, bind_where}
-use Rattle.parse_laws.proofs.Steps.{Any, fits_any, false_true}
-use Rattle.parse_laws.proofs.Heads.{level_law}
-use Rattle.parse_laws.proofs.Repeat.{Takes}
+use Rattle.parse_law.specs.tools.Parsing.{fault, done, unexpected, and_then, ◌>>=◌, pure}
+use Rattle.parse_law.specs.Nesting.{May}
+use Rattle.parse_law.proofs.Forms.{Form, Alike, Completes, Done, Judge, Law}
+use Rattle.parse_law.proofs.Bind.{Seq, bind_where}
+use Rattle.parse_law.proofs.Steps.{Any, fits_any, false_true}
+use Rattle.parse_law.proofs.Heads.{level_law}
+use Rattle.parse_law.proofs.Repeat.{Takes}
 use Rattle.c_parse.specs.declared.sorts.StmtStart.{StmtStart}
 use Rattle.c_parse.specs.Symbol.{Symbol, Symbols, word, mark}
-use Rattle.c_parse.specs.Sorts.{is_base, stmt_start}
-use Rattle.c_parse.specs.Tokens.{P, next, kind_of, want, is_mark, mark_at, word_at, goes}
+use Rattle.c_parse.specs.tools.Sorts.{is_base, stmt_start}
+use Rattle.c_parse.specs.tools.Tokens.{P, next, kind_of, want, is_mark, mark_at, word_at, goes}
 use Rattle.c_parse.specs.Exprs.{ExprAt}
 use Rattle.c_parse.specs.Stmts.{StmtAt, stmt, StatementAt, braced, empty, simple, return, break, continue, if_alone, if_else, while, for, par, block, no_item, no_branch, branch as one_branch}
-use Rattle.c_parse.specs.StmtParser as spec
+use Rattle.c_parse.specs.tools.StmtParser as spec
 use Rattle.c_parse.proofs.Parts.{Part, Gives, gives, given, gives_part, seq, seq_whole, takes_seq, takes_want, narrow, widen, restate, Branch, branch, refuses, Void, dispatch, dispatch_empty}
 use Rattle.c_parse.proofs.TokenParts.{MarkAt, marked, WordAt, worded, mark_any, mark_part, word_any, AnyToken, line_one, Only, only_mark}
 use Rattle.c_parse.proofs.Lists.{many_part}

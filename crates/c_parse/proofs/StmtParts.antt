@@ -8,17 +8,17 @@ use Rattle.c_ast.specs.declared.decl.Decl.{Decl}
 use Rattle.c_ast.specs.declared.expr.Expr.{Expr}
 use Rattle.c_ast.specs.declared.stmt.Simple.{Simple}
 use Rattle.c_ast.specs.declared.stmt.ForStart.{ForStart}
-use Rattle.parse_laws.specs.Nesting.{May}
-use Rattle.parse_laws.proofs.Forms.{Form, Fits}
-use Rattle.parse_laws.proofs.Bind.{Seq}
-use Rattle.parse_laws.proofs.Steps.{Any, false_true}
+use Rattle.parse_law.specs.Nesting.{May}
+use Rattle.parse_law.proofs.Forms.{Form, Fits}
+use Rattle.parse_law.proofs.Bind.{Seq}
+use Rattle.parse_law.proofs.Steps.{Any, false_true}
 use Rattle.c_parse.specs.declared.sorts.StmtStart.{StmtStart}
 use Rattle.c_parse.specs.Symbol.{Symbol, Symbols, mark}
 use Rattle.c_parse.specs.Operators.{tiers}
-use Rattle.c_parse.specs.Sorts.{is_operand, is_base, stmt_start}
-use Rattle.c_parse.specs.Tokens.{next, kind_of, want}
+use Rattle.c_parse.specs.tools.Sorts.{is_operand, is_base, stmt_start}
+use Rattle.c_parse.specs.tools.Tokens.{next, kind_of, want}
 use Rattle.c_parse.specs.Stmts.{DeclAt, decl as decl_at, SimpleAt, assign, increment, decrement, pre_increment, pre_decrement, call, OptionalExprAt, OptionalSimpleAt, ForStartAt}
-use Rattle.c_parse.specs.StmtParser as spec
+use Rattle.c_parse.specs.tools.StmtParser as spec
 use Rattle.c_parse.proofs.Parts.{Part, Gives, gives, gives_part, seq, narrow, widen, Branch, branch, dispatch, dispatch_empty}
 use Rattle.c_parse.proofs.TokenParts.{MarkAt, marked, mark_any, mark_part, AnyToken, line_one, Only, only_mark}
 use Rattle.c_parse.proofs.LevelLaws.{AfterLevel}

@@ -9,21 +9,21 @@ use Rattle.c_ast.specs.declared.decl.Base.{Base}
 use Rattle.c_ast.specs.declared.expr.UnaryOp.{UnaryOp}
 use Rattle.c_ast.specs.declared.expr.Expr.{Expr}
 use Rattle.c_parse.specs.Nodes as tree
-use Rattle.parse_laws.specs.Parsing.{fault, unexpected, deep, peek, rising, refuse, level}
-use Rattle.parse_laws.specs.Nesting.{May}
-use Rattle.parse_laws.proofs.Forms.{Form, Follow, Completes, Law}
-use Rattle.parse_laws.proofs.Bind.{Seq}
-use Rattle.parse_laws.proofs.Steps.{fits_any, false_true}
-use Rattle.parse_laws.proofs.Heads.{level_law}
-use Rattle.parse_laws.proofs.Repeat.{Takes}
+use Rattle.parse_law.specs.tools.Parsing.{fault, unexpected, deep, peek, rising, refuse, level}
+use Rattle.parse_law.specs.Nesting.{May}
+use Rattle.parse_law.proofs.Forms.{Form, Follow, Completes, Law}
+use Rattle.parse_law.proofs.Bind.{Seq}
+use Rattle.parse_law.proofs.Steps.{fits_any, false_true}
+use Rattle.parse_law.proofs.Heads.{level_law}
+use Rattle.parse_law.proofs.Repeat.{Takes}
 use Rattle.c_parse.specs.declared.subject.Subject.{Subject}
 use Rattle.c_parse.specs.Symbol.{Symbol, Symbols, word, mark, name, number}
 use Rattle.c_parse.specs.Operators.{unary_op}
-use Rattle.c_parse.specs.Sorts.{is_operand, is_operand_by}
-use Rattle.c_parse.specs.Tokens.{P, next, kind_of, goes}
+use Rattle.c_parse.specs.tools.Sorts.{is_operand, is_operand_by}
+use Rattle.c_parse.specs.tools.Tokens.{P, next, kind_of, goes}
 use Rattle.c_parse.specs.Types.{type_name, int, no_star}
 use Rattle.c_parse.specs.Exprs.{UnaryAt, unary, OperandAt, prefixed, cast, suffixed, PostfixAt, postfix, SuffixesAt, no_suffix, index, field, arrow, numeral, null, variable, called, paren, sizeof, CallAt, no_argument, call}
-use Rattle.c_parse.specs.ExprParser as spec
+use Rattle.c_parse.specs.tools.ExprParser as spec
 use Rattle.c_parse.proofs.Parts.{Part, Gives, gives, given, gives_part, seq, restate}
 use Rattle.c_parse.proofs.TokenParts.{AnyToken, line_one}
 use Rattle.c_parse.proofs.LevelLaws.{AfterOperand, zero_unary, zero_expr, zero_symbol, zero_tree, Unaries}

@@ -2,7 +2,7 @@
 use Rattle.std.proofs.Common.{◌≡◌, suc, ◌-◌, ◌<◌, ◌≤◌, List, [], ◌∷◌, length, take, drop, refl, sym, ap, arith}
 use Rattle.std.proofs.lemmas.List.{take_all}
 use Rattle.c_lex.specs.declared.token.Token.{Token}
-use Rattle.parse_laws.specs.Parsing.{done, skip}
+use Rattle.parse_law.specs.tools.Parsing.{done, skip}
 use Rattle.c_parse.specs.Symbol.{symbols_of}
 
 pub length_symbols : (ts : List Token) → length (symbols_of ts) ≡ length ts

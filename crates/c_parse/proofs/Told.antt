@@ -2,15 +2,15 @@
 use Rattle.std.proofs.Common.{◌≡◌, ◌-◌, List, Result, Ok, Err, refl, subst}
 use Rattle.c_lex.specs.IsLexed.{Lexed}
 use Rattle.c_ast.specs.declared.program.Item.{Item}
-use Rattle.parse_laws.specs.Parsing.{fault, unexpected, deep}
-use Rattle.parse_laws.specs.Tells as laws
+use Rattle.parse_law.specs.tools.Parsing.{fault, unexpected, deep}
+use Rattle.parse_law.specs.Tells as laws
 use Rattle.c_parse.specs.declared.cursor.Failure.{Failure}
 use Rattle.c_parse.specs.Symbol.{Symbols, symbols_of}
 use Rattle.c_parse.specs.Programs.{ProgramAt}
 use Rattle.c_parse.specs.Parsed.{IsUnexpected, IsDeep, IsFault}
-use Rattle.c_parse.specs.Reads.{Reads}
-use Rattle.c_parse.specs.Failures.{Tells, FailsAt, fault_of, place}
-use Rattle.c_parse.specs.ProgramParser as spec
+use Rattle.c_parse.specs.tools.Reads.{Reads}
+use Rattle.c_parse.specs.tools.Failures.{Tells, FailsAt, fault_of, place}
+use Rattle.c_parse.specs.tools.ProgramParser as spec
 use Rattle.c_parse.proofs.Symbols.{length_symbols}
 use Rattle.c_parse.proofs.ProgramLaws.{program_tells}
 use Rattle.c_parse.specs.NestingLimit.{nesting_limit}

@@ -11,20 +11,20 @@ use Rattle.c_ast.specs.declared.decl.Brackets.{Brackets}
 use Rattle.c_ast.specs.declared.decl.ProtoParam.{ProtoParam}
 use Rattle.c_ast.specs.declared.decl.ProtoParams.{ProtoParams}
 use Rattle.c_ast.specs.declared.ident.Ident.{Ident}
-use Rattle.parse_laws.specs.Parsing.{◌>>=◌, ◌>>◌, pure, repeat}
-use Rattle.parse_laws.specs.Nesting.{May}
-use Rattle.parse_laws.proofs.Forms.{Form, Fits, Law}
-use Rattle.parse_laws.proofs.Bind.{Seq, Leads}
-use Rattle.parse_laws.proofs.Carry.{fits_fewer}
-use Rattle.parse_laws.proofs.Steps.{Any, fits_any}
-use Rattle.parse_laws.proofs.Repeat.{repeat_law, Takes}
+use Rattle.parse_law.specs.tools.Parsing.{◌>>=◌, ◌>>◌, pure, repeat}
+use Rattle.parse_law.specs.Nesting.{May}
+use Rattle.parse_law.proofs.Forms.{Form, Fits, Law}
+use Rattle.parse_law.proofs.Bind.{Seq, Leads}
+use Rattle.parse_law.proofs.Carry.{fits_fewer}
+use Rattle.parse_law.proofs.Steps.{Any, fits_any}
+use Rattle.parse_law.proofs.Repeat.{repeat_law, Takes}
 use Rattle.c_parse.specs.Symbol.{Symbol, Symbols, word, mark, name, number}
-use Rattle.c_parse.specs.Tokens.{next, want, kind_of, choose, is_mark, is_ident, mark_at, number_at}
-use Rattle.c_parse.specs.Sorts.{base_word, list_start}
+use Rattle.c_parse.specs.tools.Tokens.{next, want, kind_of, choose, is_mark, is_ident, mark_at, number_at}
+use Rattle.c_parse.specs.tools.Sorts.{base_word, list_start}
 use Rattle.c_parse.specs.declared.sorts.BaseWord.{BaseWord}
 use Rattle.c_parse.specs.declared.sorts.ListStart.{ListStart}
 use Rattle.c_parse.specs.Types.{BaseAt, int, struct, StarsAt, no_star, star, LengthsAt, no_length, length as one_length, TypeNameAt, type_name, DeclaratorAt, declarator, BracketsAt, NameAt, ProtoParamAt, ProtoParamsAt, ProtoListAt}
-use Rattle.c_parse.specs.TypeParser as p
+use Rattle.c_parse.specs.tools.TypeParser as p
 use Rattle.c_parse.proofs.Parts.{Part, takes_want, Gives, gives, gives_part, seq, takes_seq, narrow, widen, relead, restate, Branch, branch, refuses, Void, dispatch, dispatch_empty}
 use Rattle.c_parse.proofs.TokenParts.{MarkAt, marked, WordAt, worded, IdentAt, named, NumberAt, numbered, mark_any, ident_part, word_any, ident_any, number_any, AnyToken, line_one, located_part, Only, only_mark}
 use Rattle.c_parse.proofs.Lists.{many_part, list_part, Others, Tail, no_tail, tail}

@@ -12,7 +12,7 @@ use Rattle.c_parse.specs.Nodes as e
 use Rattle.c_parse.specs.Symbol.{Symbol, Symbols, word, mark, name, number}
 use Rattle.c_parse.specs.declared.operators.Tier.{Tier}
 use Rattle.c_parse.specs.Operators.{unary_op, binary_op, tiers}
-use Rattle.parse_laws.specs.Nesting.{May}
+use Rattle.parse_law.specs.Nesting.{May}
 use Rattle.c_parse.specs.Types.{TypeNameAt}
 
 module _ (may : May Symbol) where

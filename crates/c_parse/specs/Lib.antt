@@ -7,12 +7,4 @@ pub mod Exprs
 pub mod Stmts
 pub mod Programs
 pub mod Parsed
-pub mod Sorts
-pub mod Tokens
-pub mod Reads
-pub mod TypeParser
-pub mod ExprParser
-pub mod StmtParser
-pub mod ProgramParser
-pub mod Nests
-pub mod Failures
+pub mod tools

@@ -4,7 +4,7 @@ use Rattle.dfi_base.specs.declared.numbers.Line.{Line}
 use Rattle.c_lex.specs.IsLexed.{Lexed}
 use Rattle.c_ast.specs.declared.program.Item.{Item}
 use Rattle.c_ast.specs.Ast.{Ast}
-use Rattle.parse_laws.specs.FirstFault as first
+use Rattle.parse_law.specs.FirstFault as first
 use Rattle.c_parse.specs.declared.fault.ParseFault.{ParseFault}
 use Rattle.c_parse.specs.Symbol.{Symbols, symbols_of}
 use Rattle.c_parse.specs.Programs.{ProgramAt}

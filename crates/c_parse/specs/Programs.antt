@@ -15,7 +15,7 @@ use Rattle.c_ast.specs.declared.stmt.Block.{Block}
 use Rattle.c_ast.specs.declared.stmt.Stmt.{Stmt}
 use Rattle.c_ast.specs.declared.program.Field.{Field}
 use Rattle.c_ast.specs.declared.program.Item.{Item}
-use Rattle.parse_laws.specs.Nesting.{May}
+use Rattle.parse_law.specs.Nesting.{May}
 use Rattle.c_parse.specs.Symbol.{Symbol, Symbols, word, mark, name}
 use Rattle.c_parse.specs.Types.{BaseAt, ResultAt, DeclaratorAt, ParameterListAt, ProtoListAt}
 use Rattle.c_parse.specs.Stmts.{DeclAt, BlockAt}

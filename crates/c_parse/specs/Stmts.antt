@@ -19,7 +19,7 @@ use Rattle.c_ast.specs.declared.stmt.Stmt.{Stmt}
 use Rattle.c_ast.specs.declared.stmt.Stmt.TheVariants as s
 use Rattle.c_parse.specs.Symbol.{Symbol, Symbols, word, mark}
 use Rattle.c_parse.specs.Operators.{assign_op}
-use Rattle.parse_laws.specs.Nesting.{May}
+use Rattle.parse_law.specs.Nesting.{May}
 use Rattle.c_parse.specs.Types.{BaseAt, DeclaratorAt}
 use Rattle.c_parse.specs.Exprs.{ExprAt, UnaryAt, PostfixAt, CallAt}
 

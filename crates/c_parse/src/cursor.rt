@@ -1,12 +1,12 @@
 //! The tokens that are not read yet.
 
 ghost use Rattle.std.specs.Prelude.{◌≡◌, ◌≤◌, length};
-ghost use Rattle.parse_laws.specs.Parsing.{skip, finish, done};
+ghost use Rattle.parse_law.specs.tools.Parsing.{skip, finish, done};
 ghost use Rattle.c_parse.specs.Symbol.{symbols_of};
-ghost use Rattle.c_parse.specs.Tokens as spec;
-ghost use Rattle.c_parse.specs.ExprParser as exprs;
-ghost use Rattle.c_parse.specs.StmtParser as stmts;
-ghost use Rattle.c_parse.specs.Reads.{Reads};
+ghost use Rattle.c_parse.specs.tools.Tokens as spec;
+ghost use Rattle.c_parse.specs.tools.ExprParser as exprs;
+ghost use Rattle.c_parse.specs.tools.StmtParser as stmts;
+ghost use Rattle.c_parse.specs.tools.Reads.{Reads};
 
 use crate::operators::{Tier, assign_op, binary_in, unary_op};
 use c_ast::{AssignOp, BinaryOp, Ident, UnaryOp};

@@ -1,8 +1,8 @@
 //! Declarations, and expressions where a statement has them.
 
 ghost use Rattle.std.specs.Prelude.{◌≡◌, [], ◌∷◌};
-ghost use Rattle.c_parse.specs.StmtParser as spec;
-ghost use Rattle.c_parse.specs.Reads.{Reads};
+ghost use Rattle.c_parse.specs.tools.StmtParser as spec;
+ghost use Rattle.c_parse.specs.tools.Reads.{Reads};
 ghost use Rattle.c_parse.specs.NestingLimit.{nesting_limit};
 
 use crate::cursor::{Cursor, Failure};

@@ -1,10 +1,10 @@
 //! Expressions.
 
 ghost use Rattle.std.specs.Prelude.{◌≡◌, [], ◌∷◌};
-ghost use Rattle.parse_laws.specs.Parsing.{rising};
-ghost use Rattle.c_parse.specs.ExprParser as spec;
-ghost use Rattle.c_parse.specs.Reads.{Reads};
-ghost use Rattle.c_parse.specs.Nests.{Nests};
+ghost use Rattle.parse_law.specs.tools.Parsing.{rising};
+ghost use Rattle.c_parse.specs.tools.ExprParser as spec;
+ghost use Rattle.c_parse.specs.tools.Reads.{Reads};
+ghost use Rattle.c_parse.specs.tools.Nests.{Nests};
 ghost use Rattle.c_parse.specs.NestingLimit.{nesting_limit};
 
 use crate::cursor::{Cursor, Failure};

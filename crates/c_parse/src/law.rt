@@ -2,9 +2,9 @@
 
 ghost use Rattle.std.specs.Prelude.{◌≡◌, List, ◌++◌};
 ghost use Rattle.c_ast.specs.declared.program.Item.{Item};
-ghost use Rattle.parse_laws.specs.Nesting.{Anywhere};
-ghost use Rattle.parse_laws.specs.FirstFault.{Continues};
-ghost use Rattle.parse_laws.specs.Tells.{HasOneAnswer};
+ghost use Rattle.parse_law.specs.Nesting.{Anywhere};
+ghost use Rattle.parse_law.specs.FirstFault.{Continues};
+ghost use Rattle.parse_law.specs.Tells.{HasOneAnswer};
 ghost use Rattle.c_parse.specs.Symbol.{Symbols};
 ghost use Rattle.c_parse.specs.Programs.{ProgramAt};
 ghost use Rattle.c_parse.specs.NestingLimit.{nesting_limit};

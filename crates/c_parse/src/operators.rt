@@ -2,7 +2,7 @@
 
 ghost use Rattle.std.specs.Prelude.{◌≡◌};
 ghost use Rattle.c_parse.specs.Operators as spec;
-ghost use Rattle.c_parse.specs.ExprParser as exprs;
+ghost use Rattle.c_parse.specs.tools.ExprParser as exprs;
 
 use c_ast::{AssignOp, BinaryOp, UnaryOp};
 use c_lex::{Kind, Mark};

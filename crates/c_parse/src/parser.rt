@@ -1,7 +1,7 @@
 //! The parser of a whole source.
 
 ghost use Rattle.std.specs.Prelude.{◌≡◌};
-ghost use Rattle.c_parse.specs.Failures as spec;
+ghost use Rattle.c_parse.specs.tools.Failures as spec;
 ghost use Rattle.c_parse.specs.Parsed.{IsProgram, Says};
 ghost use Rattle.c_parse.specs.Symbol.{symbols_of};
 

@@ -1,8 +1,8 @@
 //! Items of a program, and whole programs.
 
 ghost use Rattle.std.specs.Prelude.{◌≡◌, [], ◌∷◌, IfOk};
-ghost use Rattle.c_parse.specs.ProgramParser as spec;
-ghost use Rattle.c_parse.specs.Reads.{Reads};
+ghost use Rattle.c_parse.specs.tools.ProgramParser as spec;
+ghost use Rattle.c_parse.specs.tools.Reads.{Reads};
 ghost use Rattle.c_parse.specs.NestingLimit.{nesting_limit};
 
 use crate::cursor::{Cursor, Failure};

@@ -1,8 +1,8 @@
 //! Simple statements, and what else stands in the parentheses of statements.
 
 ghost use Rattle.std.specs.Prelude.{◌≡◌, [], ◌∷◌};
-ghost use Rattle.c_parse.specs.StmtParser as spec;
-ghost use Rattle.c_parse.specs.Reads.{Reads};
+ghost use Rattle.c_parse.specs.tools.StmtParser as spec;
+ghost use Rattle.c_parse.specs.tools.Reads.{Reads};
 ghost use Rattle.c_parse.specs.declared.sorts.SubjectEnd.{SubjectEnd};
 ghost use Rattle.c_parse.specs.NestingLimit.{nesting_limit};
 

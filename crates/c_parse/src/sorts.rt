@@ -1,8 +1,8 @@
 //! What the next token can begin, for the forms that ask.
 
 ghost use Rattle.std.specs.Prelude.{◌≡◌};
-ghost use Rattle.c_parse.specs.Sorts as spec;
-ghost use Rattle.c_parse.specs.StmtParser as stmts;
+ghost use Rattle.c_parse.specs.tools.Sorts as spec;
+ghost use Rattle.c_parse.specs.tools.StmtParser as stmts;
 
 use crate::operators::assign_op;
 use c_lex::{Kind, Mark, Word};

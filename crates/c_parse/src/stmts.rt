@@ -1,9 +1,9 @@
 //! Statements.
 
 ghost use Rattle.std.specs.Prelude.{◌≡◌, [], ◌∷◌};
-ghost use Rattle.c_parse.specs.StmtParser as spec;
-ghost use Rattle.c_parse.specs.Reads.{Reads};
-ghost use Rattle.c_parse.specs.Nests.{NestsStmts};
+ghost use Rattle.c_parse.specs.tools.StmtParser as spec;
+ghost use Rattle.c_parse.specs.tools.Reads.{Reads};
+ghost use Rattle.c_parse.specs.tools.Nests.{NestsStmts};
 ghost use Rattle.c_parse.specs.NestingLimit.{nesting_limit};
 
 use crate::cursor::{Cursor, Failure};

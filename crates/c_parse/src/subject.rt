@@ -1,7 +1,7 @@
 //! Operands, by what a statement that begins with one may go on with.
 
 ghost use Rattle.std.specs.Prelude.{◌≡◌};
-ghost use Rattle.c_parse.specs.ExprParser.{expr_of};
+ghost use Rattle.c_parse.specs.tools.ExprParser.{expr_of};
 
 use c_ast::{Expr, Form, Ident};
 use sqlite_items::Items;

@@ -1,8 +1,8 @@
 //! Types and declarators.
 
 ghost use Rattle.std.specs.Prelude.{◌≡◌};
-ghost use Rattle.c_parse.specs.TypeParser as spec;
-ghost use Rattle.c_parse.specs.Reads.{Reads};
+ghost use Rattle.c_parse.specs.tools.TypeParser as spec;
+ghost use Rattle.c_parse.specs.tools.Reads.{Reads};
 
 use crate::cursor::{Cursor, Failure};
 use crate::sorts::{BaseWord, ListStart, base_word, list_start};

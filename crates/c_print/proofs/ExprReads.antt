@@ -5,7 +5,7 @@ use Rattle.std.proofs.lemmas.List.{append-nil, take-append-drop, drop-drop}
 use Rattle.c_lex.specs.declared.token.Mark.{Mark}
 use Rattle.c_ast.specs.declared.expr.Expr.{Expr}
 use Rattle.c_ast.specs.declared.expr.Form.{Form, out-Form}
-use Rattle.parse_laws.specs.Nesting.{Anywhere}
+use Rattle.parse_law.specs.Nesting.{Anywhere}
 use Rattle.c_parse.specs.declared.operators.Tier.{Tier}
 use Rattle.c_parse.specs.Operators.{tiers}
 use Rattle.c_parse.specs.Exprs as g

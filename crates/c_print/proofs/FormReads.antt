@@ -12,7 +12,7 @@ use Rattle.c_ast.specs.declared.expr.Expr.{Expr, Expr-F, roll-Expr}
 use Rattle.c_ast.specs.declared.expr.Form.{Form, ind-Form, out-Form, roll-Form, map-Form}
 use Rattle.c_ast.specs.declared.expr.Form.TheOpen.{Form-F}
 use Rattle.c_ast.specs.declared.expr.Form.TheVariants as f
-use Rattle.parse_laws.specs.Nesting.{Anywhere}
+use Rattle.parse_law.specs.Nesting.{Anywhere}
 use Rattle.c_parse.specs.Nodes as n
 use Rattle.c_parse.specs.Symbol.{Symbols}
 use Rattle.c_parse.specs.declared.operators.Tier.{Tier}

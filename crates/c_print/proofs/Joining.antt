@@ -5,7 +5,7 @@ use Rattle.c_lex.specs.declared.token.Mark.{Mark}
 use Rattle.c_lex.specs.declared.token.Kind.{Kind}
 use Rattle.c_ast.specs.declared.expr.BinaryOp.{BinaryOp}
 use Rattle.c_ast.specs.declared.expr.Expr.{Expr}
-use Rattle.parse_laws.specs.Nesting.{Anywhere}
+use Rattle.parse_law.specs.Nesting.{Anywhere}
 use Rattle.c_parse.specs.Nodes as n
 use Rattle.c_parse.specs.Symbol.{Symbol, Symbols, mark, name}
 use Rattle.c_parse.specs.declared.operators.Tier.{Tier}

@@ -5,7 +5,7 @@ use Rattle.c_lex.specs.IsLexed.{Lexed, LexesTo}
 use Rattle.c_lex.proofs.OneMeaning.{one_lexed}
 use Rattle.c_ast.specs.declared.program.Item.{Item}
 use Rattle.c_ast.specs.Ast.{Ast}
-use Rattle.parse_laws.specs.Nesting.{Anywhere}
+use Rattle.parse_law.specs.Nesting.{Anywhere}
 use Rattle.c_parse.specs.Programs.{ProgramAt}
 use Rattle.c_parse.proofs.OneTree.{programs_one_tree}
 use Rattle.c_print.specs.IsTreeOf.{IsTreeOf}

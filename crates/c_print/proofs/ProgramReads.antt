@@ -12,7 +12,7 @@ use Rattle.c_ast.specs.declared.decl.Params.{Params}
 use Rattle.c_ast.specs.declared.decl.ProtoParams.{ProtoParams}
 use Rattle.c_ast.specs.declared.program.Field.{Field}
 use Rattle.c_ast.specs.declared.program.Item.{Item}
-use Rattle.parse_laws.specs.Nesting.{May, Anywhere}
+use Rattle.parse_law.specs.Nesting.{May, Anywhere}
 use Rattle.c_parse.specs.Symbol.{Symbol, Symbols}
 use Rattle.c_parse.specs.Types as t
 use Rattle.c_parse.specs.Programs as p

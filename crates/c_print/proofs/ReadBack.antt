@@ -10,7 +10,7 @@ use Rattle.c_lex.specs.IsLexed.{Lexed, LexesTo}
 use Rattle.c_lex.proofs.OneMeaning.{one_lexed}
 use Rattle.c_ast.specs.declared.program.Item.{Item}
 use Rattle.c_ast.specs.Ast.{Ast}
-use Rattle.parse_laws.specs.Nesting.{Anywhere, Within}
+use Rattle.parse_law.specs.Nesting.{Anywhere, Within}
 use Rattle.c_parse.specs.declared.fault.ParseFault.{ParseFault}
 use Rattle.c_parse.specs.Symbol.{Symbols, symbols_of}
 use Rattle.c_parse.specs.Programs.{ProgramAt}

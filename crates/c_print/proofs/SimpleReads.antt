@@ -11,7 +11,7 @@ use Rattle.c_ast.specs.declared.expr.Expr.{Expr}
 use Rattle.c_ast.specs.declared.stmt.AssignOp.{AssignOp}
 use Rattle.c_ast.specs.declared.stmt.Simple.{Simple}
 use Rattle.c_ast.specs.declared.stmt.ForStart.{ForStart}
-use Rattle.parse_laws.specs.Nesting.{May, Anywhere}
+use Rattle.parse_law.specs.Nesting.{May, Anywhere}
 use Rattle.c_parse.specs.Symbol.{Symbol, Symbols, mark as symbol}
 use Rattle.c_parse.specs.Operators.{assign_op}
 use Rattle.c_parse.specs.Exprs as g

@@ -11,7 +11,7 @@ use Rattle.c_ast.specs.declared.stmt.Block.{Block}
 use Rattle.c_ast.specs.declared.stmt.BlockItem.{BlockItem}
 use Rattle.c_ast.specs.declared.stmt.Stmt.{Stmt}
 use Rattle.c_ast.specs.declared.stmt.Stmt.TheVariants as tree
-use Rattle.parse_laws.specs.Nesting.{May, Anywhere}
+use Rattle.parse_law.specs.Nesting.{May, Anywhere}
 use Rattle.c_parse.specs.Symbol.{Symbol, Symbols}
 use Rattle.c_parse.specs.Types as t
 use Rattle.c_parse.specs.Exprs as g

@@ -9,7 +9,7 @@ use Rattle.c_ast.specs.declared.expr.BinaryOp.{BinaryOp}
 use Rattle.c_ast.specs.declared.expr.Expr.{Expr}
 use Rattle.c_ast.specs.declared.expr.Form.{Form, out-Form}
 use Rattle.c_ast.specs.declared.expr.Form.TheVariants as f
-use Rattle.parse_laws.specs.Nesting.{May}
+use Rattle.parse_law.specs.Nesting.{May}
 use Rattle.c_parse.specs.Symbol.{Symbol, Symbols, mark as symbol}
 use Rattle.c_parse.specs.declared.operators.Tier.{Tier}
 use Rattle.c_parse.specs.Exprs as g

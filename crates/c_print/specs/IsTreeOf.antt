@@ -2,7 +2,7 @@
 use Rattle.std.specs.Prelude.{◌≡◌, ℕ, List}
 use Rattle.c_lex.specs.IsLexed.{Lexed, LexesTo}
 use Rattle.c_ast.specs.Ast.{Ast}
-use Rattle.parse_laws.specs.Nesting.{Anywhere}
+use Rattle.parse_law.specs.Nesting.{Anywhere}
 use Rattle.c_parse.specs.Symbol.{symbols_of}
 use Rattle.c_parse.specs.Programs.{ProgramAt}
 

@@ -8,8 +8,8 @@ use dfi_base::{Memory, Text};
 use itoa::Buffer;
 use sqlite_items::Items;
 
-/// A word with no use has many spellings, of which this is one.
-fn word(word: Word) -> &'static str
+/// A reserved word as it is written. One with no use has many spellings, of which this is one.
+pub fn word_text(word: Word) -> &'static str
     ensures { result.now ≡ spec.of_word word }
 {
     match word {
@@ -30,7 +30,8 @@ fn word(word: Word) -> &'static str
     }
 }
 
-fn mark(mark: Mark) -> &'static str
+/// A mark as it is written.
+pub fn mark_text(mark: Mark) -> &'static str
     ensures { result.now ≡ spec.of_mark mark }
 {
     match mark {
@@ -95,10 +96,10 @@ pub fn spell(text: &mut Vec<u8>, names: &Items<Text>, kind: Kind) -> Result<(), 
     ensures { OnOk result (text.new.items ≡ text.old.items ++ spec.spelled names.now kind) }
 {
     match kind {
-        Kind::Word(w) => text.extend_from_slice(word(w).as_bytes())?,
+        Kind::Word(word) => text.extend_from_slice(word_text(word).as_bytes())?,
         Kind::Id(number) => text.extend_from_slice(name(names, number))?,
         Kind::Num(value) => text.extend_from_slice(Buffer::new().format(value).as_bytes())?,
-        Kind::Mark(m) => text.extend_from_slice(mark(m).as_bytes())?,
+        Kind::Mark(mark) => text.extend_from_slice(mark_text(mark).as_bytes())?,
     }
     Ok(())
 }

@@ -6,7 +6,7 @@ use Rattle.c_typed.specs.declared.types.ObjectType.{ObjectType}
 use Rattle.c_typed.specs.Marks
 use Rattle.c_typed.specs.Marks.{Mark, local, opens, closes, Opening, History, Variable, around, result_at, functions_in, globals_in, has_tag, has_global, has_function, has_prototype, global_words}
 use Rattle.c_typed.specs.Parts.{marked}
-use Rattle.c_typed.specs.Scopes.{Binding, Scopes, bound, left, scopes_of}
+use Rattle.c_typed.specs.tools.Scopes.{Binding, Scopes, bound, left, scopes_of}
 
 -- variables and scopes that are closed again
 pub data Balanced : List Mark → Type 0 where

@@ -3,7 +3,7 @@ use Rattle.std.proofs.Common.{◌≡◌, ℕ, zero, suc, Bool, true, false, List
 use Rattle.std.specs.Prelude.{nat_eq}
 use Rattle.std.proofs.Math.Seq.{drop-nil}
 use Rattle.c_typed.specs.Marks.{tag, field, global, prototype, function, local, opens, closes, History, Variable, variable, locals_in, globals_in}
-use Rattle.c_typed.specs.Scopes.{Binding, Scopes, bound, left, scopes_of, find_in, find}
+use Rattle.c_typed.specs.tools.Scopes.{Binding, Scopes, bound, left, scopes_of, find_in, find}
 
 drop_left : (d : ℕ) (ss : Scopes) → drop d (left ss) ≡ drop (suc d) ss
 drop_left d [] = drop-nil d

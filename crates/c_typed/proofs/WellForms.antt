@@ -23,7 +23,7 @@ use Rattle.c_typed.specs.Parts.{Place, Part, tokens, given, obeys, refused, â—Œâ
 use Rattle.c_typed.specs.Tags.{type_name}
 use Rattle.c_typed.specs.Exprs.{Layer, made, Size, Reading, value, many_of, one_of, struct_by, struct_of, struct_at, struct_behind, with_struct, field_by, field_of, fielded, found_by, name, name_as, all_fit, called_type, applied, asked, put_by, put, freed_by, freed, allocated, arguments, called, allocation_by, allocation, call_as, call, is_malloc, cast_by, counted_by, product, form_step, expr}
 use Rattle.c_typed.specs.Programs.{main_in}
-use Rattle.c_typed.specs.Scopes.{scopes_of}
+use Rattle.c_typed.specs.tools.Scopes.{scopes_of}
 use Rattle.c_typed.specs.IsWell.{IsBase, IsObject, IsTyping, Context, IsField, IsLayer, IsFreed, IsCount, operands_of, operand_there, IsExpr, AreExprs, none, each}
 use Rattle.c_typed.proofs.Levels.{mapped_form, read_form, form_roll, expr_reads}
 use Rattle.c_typed.proofs.ScopeLaws.{variable_found}

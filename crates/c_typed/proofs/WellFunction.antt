@@ -18,7 +18,7 @@ use Rattle.c_typed.specs.Whole.{Whole, Signature, parameter_type, parameter_type
 use Rattle.c_typed.specs.Faults as faults
 use Rattle.c_typed.specs.Faults.{unless}
 use Rattle.c_typed.specs.Parts.{Place, Part, marked, tokens, mark, behind, with_faults, ◌<⊗◌, ◌⊗>◌}
-use Rattle.c_typed.specs.Scopes.{scopes_of}
+use Rattle.c_typed.specs.tools.Scopes.{scopes_of}
 use Rattle.c_typed.specs.Tags.{base}
 use Rattle.c_typed.specs.Decls as decls
 use Rattle.c_typed.specs.Decls.{is_scalar, type_limit, frame_limit, parameter, parameter_base}

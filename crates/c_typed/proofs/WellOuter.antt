@@ -20,7 +20,7 @@ use Rattle.c_typed.specs.Marks as marks
 use Rattle.c_typed.specs.Marks.{Mark, tag, field, global, prototype, function, opens, closes, History, has_tag, globals_in, functions_in}
 use Rattle.c_typed.specs.Whole.{Whole}
 use Rattle.c_typed.specs.Parts.{Part, marked, separated, in_turn}
-use Rattle.c_typed.specs.Scopes.{Scopes, left, scopes_of}
+use Rattle.c_typed.specs.tools.Scopes.{Scopes, left, scopes_of}
 use Rattle.c_typed.specs.Decls as decls
 use Rattle.c_typed.specs.Decls.{field_item, fields, named, nameless, proto_parameter}
 use Rattle.c_typed.specs.Programs as programs
@@ -170,6 +170,6 @@ module _ (w : Whole) (t : Typed) where
     tags = is.tags;
   } where
     bound_scopes' : (c : Context) (ss : Scopes) → slice_get c.globals (globals_in h) ≡ Some o → AllScopes c ss
-        → AllScopes c (Rattle.c_typed.specs.Scopes.bound (record { name = x; variable = marks.Variable.global (globals_in h) o }) ss)
+        → AllScopes c (Rattle.c_typed.specs.tools.Scopes.bound (record { name = x; variable = marks.Variable.global (globals_in h) o }) ss)
     bound_scopes' c [] bound all = ((bound, tt), tt)
     bound_scopes' c (s ∷ ss) bound all = ((bound, all.0), all.1)

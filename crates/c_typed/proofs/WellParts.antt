@@ -7,7 +7,7 @@ use Rattle.c_typed.specs.Marks.{Mark, local, opens, closes, History, Variable, l
 use Rattle.c_typed.specs.Whole.{Whole}
 use Rattle.c_typed.specs.Faults.{Rule, Fault}
 use Rattle.c_typed.specs.Parts.{Place, Part, marked, tokens, given, joined, behind, both_values, kept_by, ruled_by, obeys, refused, ◌<$>◌}
-use Rattle.c_typed.specs.Scopes.{Binding, Scopes, bound, left, scopes_of, find_in, find}
+use Rattle.c_typed.specs.tools.Scopes.{Binding, Scopes, bound, left, scopes_of, find_in, find}
 use Rattle.c_typed.specs.IsWell.{Context}
 use Rattle.c_typed.proofs.Quiet.{no_marks}
 

@@ -10,6 +10,6 @@ pub mod Stmts
 pub mod Typed
 pub mod Programs
 pub mod Checks
-pub mod Scopes
 pub mod IsWell
 pub mod TypedIsWell
+pub mod tools

@@ -15,9 +15,9 @@ use Rattle.c_types.specs.declared.outline.Outline.{Outline}
 use Rattle.c_types.specs.declared.known.Known.{Known}
 use Rattle.c_typed.specs.Faults.{mismatch}
 use Rattle.c_typed.specs.Exprs.{Size, one_of, many_of}
-use Rattle.c_types.specs.Steps.{Found, ◌>>=◌, broken, kept, Finds}
-use Rattle.c_types.specs.Outlines.{type_name_walk}
-use Rattle.c_types.specs.ExprWalk.{Finding, expr_walk, value, is_mul, multiplied, product, size_or, allocated_by, count_first, type_first, arguments}
+use Rattle.c_types.specs.tools.Steps.{Found, ◌>>=◌, broken, kept, Finds}
+use Rattle.c_types.specs.tools.Outlines.{type_name_walk}
+use Rattle.c_types.specs.tools.ExprWalk.{Finding, expr_walk, value, is_mul, multiplied, product, size_or, allocated_by, count_first, type_first, arguments}
 use Rattle.c_types.proofs.WalkLevels.{walk_roll}
 
 abbrev pub allocates : Line → Option (Found Size) → Found Expr

@@ -5,7 +5,7 @@ use Rattle.dfi_base.specs.declared.numbers.Line.{Line}
 use Rattle.c_typed.specs.declared.fault.TypeFault.{TypeFault}
 use Rattle.c_typed.specs.Faults.{Rule, Fault}
 use Rattle.c_typed.specs.Parts.{Place, Judged, both, both_values, kept_by, ruled_by, ruled}
-use Rattle.c_types.specs.Answers.{precedes, earlier, least, Answers, Rules}
+use Rattle.c_types.specs.tools.Answers.{precedes, earlier, least, Answers, Rules}
 
 -- A rule over a part that is whole, and over one that is not.
 pub ruled_ok : {A B : Type 0} (rule : Rule) (line : Line) (keeps : A → Option B) (here : Place) (j : Judged A) (a : A) (r : Result B TypeFault)

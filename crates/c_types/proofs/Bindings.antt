@@ -8,9 +8,9 @@ use Rattle.c_types.specs.declared.scopes.Home.{Home}
 use Rattle.c_types.specs.declared.scopes.Binding.{Binding}
 use Rattle.c_types.specs.declared.scopes.Scopes.{Scopes}
 use Rattle.c_typed.specs.Marks.{Variable}
-use Rattle.c_typed.specs.Scopes.{Binding as Meant, Scopes as Open, find_in, find}
-use Rattle.c_types.specs.Tables.{looked, put, put_in}
-use Rattle.c_types.specs.KnownSteps.{opened, start_of, without_last, restored, bindings_from, closed, bind, at_least, is_bound_here}
+use Rattle.c_typed.specs.tools.Scopes.{Binding as Meant, Scopes as Open, find_in, find}
+use Rattle.c_types.specs.tools.Tables.{looked, put, put_in}
+use Rattle.c_types.specs.tools.KnownSteps.{opened, start_of, without_last, restored, bindings_from, closed, bind, at_least, is_bound_here}
 use Rattle.c_types.proofs.Outlined.{variable_at, variable_of}
 
 -- Tables.

@@ -20,11 +20,11 @@ use Rattle.c_typed.specs.Decls.{local_decl}
 use Rattle.c_typed.specs.Stmts as stmts
 use Rattle.c_typed.specs.Stmts.{simple, block_item, body, branch_of, stmt_step, stmt}
 use Rattle.c_typed.specs.Programs.{with_part}
-use Rattle.c_types.specs.Steps.{◌>>=◌}
-use Rattle.c_types.specs.KnownSteps.{entered}
-use Rattle.c_types.specs.DeclWalk.{local_decl_walk}
-use Rattle.c_types.specs.StmtWalk as walk
-use Rattle.c_types.specs.StmtWalk.{same, scoped, stmt_walk, source_item_walk, source_items_walk, source_branch_walk, source_branches_walk}
+use Rattle.c_types.specs.tools.Steps.{◌>>=◌}
+use Rattle.c_types.specs.tools.KnownSteps.{entered}
+use Rattle.c_types.specs.tools.DeclWalk.{local_decl_walk}
+use Rattle.c_types.specs.tools.StmtWalk as walk
+use Rattle.c_types.specs.tools.StmtWalk.{same, scoped, stmt_walk, source_item_walk, source_items_walk, source_branch_walk, source_branches_walk}
 use Rattle.c_types.proofs.BoundsDecls.{inside_in_turn, inside_local_decl}
 use Rattle.c_types.proofs.BoundsStmts.{inside_stmt}
 use Rattle.c_types.proofs.BoundsPrograms.{all_items}

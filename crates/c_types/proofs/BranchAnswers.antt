@@ -18,8 +18,8 @@ use Rattle.c_typed.specs.Whole.{Whole}
 use Rattle.c_typed.specs.Faults.{branches, unless}
 use Rattle.c_typed.specs.Parts.{Place, Part, tokens, mark, behind, with_faults, in_turn, ◌⊗◌, ◌<⊗◌, ◌⊗>◌, ◌<$>◌}
 use Rattle.c_typed.specs.Stmts.{condition, body, branch_of, second, stmt_step, stmt}
-use Rattle.c_types.specs.Steps.{Found, ◌>>=◌, unless_kept}
-use Rattle.c_types.specs.StmtWalk.{same, condition_walk, stmt_walk, source_second_walk, source_branch_walk, source_branches_walk, source_par_walk}
+use Rattle.c_types.specs.tools.Steps.{Found, ◌>>=◌, unless_kept}
+use Rattle.c_types.specs.tools.StmtWalk.{same, condition_walk, stmt_walk, source_second_walk, source_branch_walk, source_branches_walk, source_par_walk}
 use Rattle.c_types.proofs.Bounds.{IsInside, inside, inside_tokens, inside_given, inside_map, from_less, from_append}
 use Rattle.c_types.proofs.BoundsDecls.{AllInside, inside_in_turn, inside_mark, beside, before, after}
 use Rattle.c_types.proofs.BoundsStmts.{inside_stmt, inside_condition}

@@ -14,11 +14,11 @@ use Rattle.c_typed.specs.Faults.{Rule, Fault, unknown, mismatch}
 use Rattle.c_typed.specs.Parts.{Place, Part, given, tokens, joined, behind, obeys, refused, ◌<⊗◌, ◌⊗>◌}
 use Rattle.c_typed.specs.Exprs as defined
 use Rattle.c_typed.specs.Exprs.{Reading, Size, called, call_as}
-use Rattle.c_types.specs.Answers.{Answers}
-use Rattle.c_types.specs.Steps.{Found, ◌>>=◌, broken, kept}
-use Rattle.c_types.specs.Tables.{looked}
-use Rattle.c_types.specs.ExprWalk as walk
-use Rattle.c_types.specs.ExprWalk.{Finding}
+use Rattle.c_types.specs.tools.Answers.{Answers}
+use Rattle.c_types.specs.tools.Steps.{Found, ◌>>=◌, broken, kept}
+use Rattle.c_types.specs.tools.Tables.{looked}
+use Rattle.c_types.specs.tools.ExprWalk as walk
+use Rattle.c_types.specs.tools.ExprWalk.{Finding}
 use Rattle.c_types.proofs.AnswerLaws.{AllFrom, least_append}
 use Rattle.c_types.proofs.Bounds.{IsInside, IsBounded, inside, inside_tokens, inside_joined, from_append}
 use Rattle.c_types.proofs.BoundsExprs.{bounded_value}

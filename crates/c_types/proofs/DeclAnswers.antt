@@ -13,11 +13,11 @@ use Rattle.c_typed.specs.Whole.{Whole}
 use Rattle.c_typed.specs.Parts.{Place, tokens, behind, separated, ◌<⊗◌, ◌⊗>◌}
 use Rattle.c_typed.specs.Tags.{base}
 use Rattle.c_typed.specs.Decls.{by_value, local_item, local_decl, joined_lists}
-use Rattle.c_types.specs.Steps.{Found, ◌>>=◌, each, one, if_some}
-use Rattle.c_types.specs.Outlines as outlines
-use Rattle.c_types.specs.Outlines.{base_walk}
-use Rattle.c_types.specs.StmtWalk.{same}
-use Rattle.c_types.specs.DeclWalk.{local_walk, local_item_walk, local_decl_walk}
+use Rattle.c_types.specs.tools.Steps.{Found, ◌>>=◌, each, one, if_some}
+use Rattle.c_types.specs.tools.Outlines as outlines
+use Rattle.c_types.specs.tools.Outlines.{base_walk}
+use Rattle.c_types.specs.tools.StmtWalk.{same}
+use Rattle.c_types.specs.tools.DeclWalk.{local_walk, local_item_walk, local_decl_walk}
 use Rattle.c_types.proofs.Bounds.{inside}
 use Rattle.c_types.proofs.BoundsExprs.{bounded_base}
 use Rattle.c_types.proofs.BoundsDecls.{inside_local_item, inside_separated, all_inside}

@@ -2,7 +2,7 @@
 use Rattle.std.proofs.Common.{◌≡◌, ◌≢◌, ℕ, zero, suc, ◌<◌, ◌≤◌, List, [], ◌∷◌, ◌++◌, length, drop, get_or, Ok, Err, refl, ap, sym, ◌∙◌, append_assoc, arith}
 use Rattle.std.proofs.lemmas.List.{drop_all}
 use Rattle.c_typed.specs.declared.fault.TypeFault.{TypeFault}
-use Rattle.c_types.specs.Steps.{Found, ◌>>=◌, each, every}
+use Rattle.c_types.specs.tools.Steps.{Found, ◌>>=◌, each, every}
 
 abbrev pub behind : {C K : Type 0} → List C → Found (List C × K) → Found (List C × K)
 behind cs (Ok s) = Ok (cs ++ s.0, s.1)

@@ -19,12 +19,12 @@ use Rattle.c_typed.specs.Tags
 use Rattle.c_typed.specs.Tags.{type_name}
 use Rattle.c_typed.specs.Exprs as defined
 use Rattle.c_typed.specs.Exprs.{Reading, operands}
-use Rattle.c_types.specs.Answers.{Answers, Rules}
-use Rattle.c_types.specs.Steps.{Found, ◌>>=◌, kept, unless_kept}
-use Rattle.c_types.specs.Outlines as outlines
-use Rattle.c_types.specs.Outlines.{base_walk, type_name_walk}
-use Rattle.c_types.specs.ExprWalk as walk
-use Rattle.c_types.specs.ExprWalk.{Finding}
+use Rattle.c_types.specs.tools.Answers.{Answers, Rules}
+use Rattle.c_types.specs.tools.Steps.{Found, ◌>>=◌, kept, unless_kept}
+use Rattle.c_types.specs.tools.Outlines as outlines
+use Rattle.c_types.specs.tools.Outlines.{base_walk, type_name_walk}
+use Rattle.c_types.specs.tools.ExprWalk as walk
+use Rattle.c_types.specs.tools.ExprWalk.{Finding}
 use Rattle.c_types.proofs.AnswerLaws.{ruled_ok, ruled_err, both_ok, both_second, both_first}
 use Rattle.c_types.proofs.Bounds.{IsInside, inside, inside_tokens, inside_joined}
 use Rattle.c_types.proofs.BoundsExprs.{IsRead, bounded_value, bounded_base}

@@ -9,10 +9,10 @@ use Rattle.c_typed.specs.Types as types
 use Rattle.c_typed.specs.Marks as marks
 use Rattle.c_typed.specs.Marks.{tag, field, opens, closes, fields, History, has_field, field_words, variable}
 use Rattle.c_typed.specs.Whole.{Whole}
-use Rattle.c_typed.specs.Scopes.{left, scopes_of}
-use Rattle.c_types.specs.Tables.{looked}
-use Rattle.c_types.specs.Outlines.{bound, capped}
-use Rattle.c_types.specs.ProgramSteps.{with_fields, struct_begun, is_number, is_field, field_declared, struct_ended}
+use Rattle.c_typed.specs.tools.Scopes.{left, scopes_of}
+use Rattle.c_types.specs.tools.Tables.{looked}
+use Rattle.c_types.specs.tools.Outlines.{bound, capped}
+use Rattle.c_types.specs.tools.ProgramSteps.{with_fields, struct_begun, is_number, is_field, field_declared, struct_ended}
 use Rattle.c_types.proofs.Outlined.{IsOutline, Names, variable_of}
 use Rattle.c_types.proofs.OutlineWords.{words_same, capped_sum}
 use Rattle.c_types.proofs.Bindings.{when, looked_put, some_is}

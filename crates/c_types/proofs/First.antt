@@ -4,8 +4,8 @@ use Rattle.std.specs.Prelude.{nat_lt}
 use Rattle.std.specs.List.{Contains}
 use Rattle.std.proofs.lemmas.Bool.Decides.{nat_tests}
 use Rattle.c_typed.specs.Faults.{Fault, Precedes, earlier, together, IsFirst}
-use Rattle.c_types.specs.Answers.{precedes, least}
-use Rattle.c_types.specs.Answers as answers
+use Rattle.c_types.specs.tools.Answers.{precedes, least}
+use Rattle.c_types.specs.tools.Answers as answers
 
 precedes_is : (f g : Fault) → precedes f g ≡ true → Precedes f g
 precedes_is f g is = by_place (nat_lt f.at g.at) refl where

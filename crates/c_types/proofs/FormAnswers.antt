@@ -20,12 +20,12 @@ use Rattle.c_typed.specs.Parts.{Place, Part, tokens, behind, obeys, refused, ◌
 use Rattle.c_typed.specs.Tags.{type_name}
 use Rattle.c_typed.specs.Exprs as defined
 use Rattle.c_typed.specs.Exprs.{Layer, Reading, one_of, many_of, field_by, found_by, field_of, with_struct, struct_at, struct_behind, name_as, is_malloc}
-use Rattle.c_types.specs.Answers.{least, Answers}
-use Rattle.c_types.specs.Steps.{Found, ◌>>=◌, broken, kept}
-use Rattle.c_types.specs.Tables.{looked}
-use Rattle.c_types.specs.Outlines.{type_name_walk}
-use Rattle.c_types.specs.ExprWalk as walk
-use Rattle.c_types.specs.ExprWalk.{Finding}
+use Rattle.c_types.specs.tools.Answers.{least, Answers}
+use Rattle.c_types.specs.tools.Steps.{Found, ◌>>=◌, broken, kept}
+use Rattle.c_types.specs.tools.Tables.{looked}
+use Rattle.c_types.specs.tools.Outlines.{type_name_walk}
+use Rattle.c_types.specs.tools.ExprWalk as walk
+use Rattle.c_types.specs.tools.ExprWalk.{Finding}
 use Rattle.c_types.proofs.Bounds.{IsBounded, inside, inside_tokens, inside_joined}
 use Rattle.c_types.proofs.BoundsExprs.{bounded_value, bounded_type_name}
 use Rattle.c_types.proofs.FormLaws.{after_tokens, before_tokens}

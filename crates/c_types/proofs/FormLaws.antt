@@ -12,7 +12,7 @@ use Rattle.c_typed.specs.Whole.{Whole}
 use Rattle.c_typed.specs.Faults.{Rule, mismatch}
 use Rattle.c_typed.specs.Parts.{Place, Part, tokens, both_values, behind, obeys, ◌⊗>◌, ◌<⊗◌}
 use Rattle.c_typed.specs.Exprs.{Reading, expr, value, operands, binary, item_at}
-use Rattle.c_types.specs.Answers.{least, Answers, Rules}
+use Rattle.c_types.specs.tools.Answers.{least, Answers, Rules}
 use Rattle.c_types.proofs.Bounds.{inside, inside_tokens, inside_joined}
 use Rattle.c_types.proofs.BoundsExprs.{IsRead, bounded_value}
 use Rattle.c_types.proofs.AnswerLaws.{ruled_ok, ruled_err, both_ok, both_second, both_first}

@@ -14,12 +14,12 @@ use Rattle.c_typed.specs.Marks.{function, closes, History}
 use Rattle.c_typed.specs.Whole.{Whole, parameter_type, parameter_types}
 use Rattle.c_typed.specs.Parts.{Place, marked}
 use Rattle.c_typed.specs.Programs.{variables_in, function_text, function_item}
-use Rattle.c_types.specs.Steps.{Found, ◌>>=◌}
-use Rattle.c_types.specs.Outlines as outlines
-use Rattle.c_types.specs.KnownSteps.{exited}
-use Rattle.c_types.specs.ProgramSteps.{function_begun}
-use Rattle.c_types.specs.DeclWalk.{params_walk}
-use Rattle.c_types.specs.ProgramWalk.{result_walk, around_body, parameter_count, function_of, function_name_walk, function_body_walk, function_text_walk, function_walk}
+use Rattle.c_types.specs.tools.Steps.{Found, ◌>>=◌}
+use Rattle.c_types.specs.tools.Outlines as outlines
+use Rattle.c_types.specs.tools.KnownSteps.{exited}
+use Rattle.c_types.specs.tools.ProgramSteps.{function_begun}
+use Rattle.c_types.specs.tools.DeclWalk.{params_walk}
+use Rattle.c_types.specs.tools.ProgramWalk.{result_walk, around_body, parameter_count, function_of, function_name_walk, function_body_walk, function_text_walk, function_walk}
 use Rattle.c_typed.proofs.Balanced.{marked_append}
 use Rattle.c_types.proofs.Tells.{Tells, tells_map, tells_before_mark}
 use Rattle.c_types.proofs.Outlined.{IsOutline, tagged}

@@ -9,10 +9,10 @@ use Rattle.c_typed.specs.Marks.{Mark, function, local, opens, closes, History, f
 use Rattle.c_typed.specs.Whole.{Whole}
 use Rattle.c_typed.specs.Parts.{marked}
 use Rattle.c_typed.specs.Programs.{variables_in}
-use Rattle.c_types.specs.Tables.{looked}
-use Rattle.c_types.specs.Outlines.{capped}
-use Rattle.c_types.specs.KnownSteps.{exited}
-use Rattle.c_types.specs.ProgramSteps.{function_begun}
+use Rattle.c_types.specs.tools.Tables.{looked}
+use Rattle.c_types.specs.tools.Outlines.{capped}
+use Rattle.c_types.specs.tools.KnownSteps.{exited}
+use Rattle.c_types.specs.tools.ProgramSteps.{function_begun}
 use Rattle.c_typed.proofs.Balanced.{Balanced, left_behind, unchanged, has_global_outside, has_function_outside, has_prototype_outside, functions_outside, globals_outside, global_words_outside}
 use Rattle.c_types.proofs.Standing.{framed_function, inner_function, stands_function, stands_closes, variables_of}
 use Rattle.c_typed.proofs.WellFunctions.{Inner}

@@ -16,14 +16,14 @@ use Rattle.c_typed.specs.Parts.{Place, Part, marked, tokens, mark, behind, with_
 use Rattle.c_typed.specs.Tags.{base}
 use Rattle.c_typed.specs.Programs as programs
 use Rattle.c_typed.specs.Programs.{function_limit, has_scalar_result, is_int, no_parameters, result_base, function_faults, parameters, function_body, function_text, function_item}
-use Rattle.c_types.specs.Steps.{Found, ◌>>=◌}
-use Rattle.c_types.specs.Tables.{looked}
-use Rattle.c_types.specs.Outlines as outlines
-use Rattle.c_types.specs.Outlines.{spelled, base_walk}
-use Rattle.c_types.specs.ProgramSteps.{function_begun}
-use Rattle.c_types.specs.StmtWalk.{source_items_walk}
-use Rattle.c_types.specs.ProgramWalk as walk
-use Rattle.c_types.specs.ProgramWalk.{result_walk, around_body, function_of, function_name_walk, function_body_walk, function_text_walk, function_walk}
+use Rattle.c_types.specs.tools.Steps.{Found, ◌>>=◌}
+use Rattle.c_types.specs.tools.Tables.{looked}
+use Rattle.c_types.specs.tools.Outlines as outlines
+use Rattle.c_types.specs.tools.Outlines.{spelled, base_walk}
+use Rattle.c_types.specs.tools.ProgramSteps.{function_begun}
+use Rattle.c_types.specs.tools.StmtWalk.{source_items_walk}
+use Rattle.c_types.specs.tools.ProgramWalk as walk
+use Rattle.c_types.specs.tools.ProgramWalk.{result_walk, around_body, function_of, function_name_walk, function_body_walk, function_text_walk, function_walk}
 use Rattle.c_types.proofs.Bounds.{IsInside, inside, inside_tokens}
 use Rattle.c_types.proofs.BoundsExprs.{bounded_base}
 use Rattle.c_types.proofs.BoundsDecls.{before, after, inside_mark, inside_with}

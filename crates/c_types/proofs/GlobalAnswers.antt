@@ -21,12 +21,12 @@ use Rattle.c_typed.specs.Parts.{Place, tokens, mark, with_faults, ◌<⊗◌}
 use Rattle.c_typed.specs.Decls.{has_items, type_limit, name_at, by_value, declarator_tokens}
 use Rattle.c_typed.specs.Programs as programs
 use Rattle.c_typed.specs.Programs.{start_of, global_limit, global_faults, value_tokens, global_item, global_decl}
-use Rattle.c_types.specs.Steps.{Found, ◌>>=◌, every}
-use Rattle.c_types.specs.Outlines as outlines
-use Rattle.c_types.specs.Outlines.{capped, spelled}
-use Rattle.c_types.specs.DeclWalk.{declarator_rule}
-use Rattle.c_types.specs.ProgramSteps.{global_declared}
-use Rattle.c_types.specs.ProgramWalk.{global_first, global_fault, started, global_by, global_item_walk, global_decl_walk}
+use Rattle.c_types.specs.tools.Steps.{Found, ◌>>=◌, every}
+use Rattle.c_types.specs.tools.Outlines as outlines
+use Rattle.c_types.specs.tools.Outlines.{capped, spelled}
+use Rattle.c_types.specs.tools.DeclWalk.{declarator_rule}
+use Rattle.c_types.specs.tools.ProgramSteps.{global_declared}
+use Rattle.c_types.specs.tools.ProgramWalk.{global_first, global_fault, started, global_by, global_item_walk, global_decl_walk}
 use Rattle.c_types.proofs.BoundsPrograms.{inside_global_item}
 use Rattle.c_typed.proofs.TypesSame.{and_false}
 use Rattle.c_types.proofs.Outlined.{IsOutline, base_same}

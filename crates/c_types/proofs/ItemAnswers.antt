@@ -8,8 +8,8 @@ use Rattle.c_types.specs.declared.known.Known.{Known}
 use Rattle.c_typed.specs.Whole.{Whole}
 use Rattle.c_typed.specs.Parts.{Place}
 use Rattle.c_typed.specs.Programs.{struct, global_decl, function_item, proto, item, text}
-use Rattle.c_types.specs.Steps.{Found, ◌>>=◌, each, one}
-use Rattle.c_types.specs.ProgramWalk.{struct_walk, global_decl_walk, function_walk, proto_walk, no_function, item_walk, items_walk}
+use Rattle.c_types.specs.tools.Steps.{Found, ◌>>=◌, each, one}
+use Rattle.c_types.specs.tools.ProgramWalk.{struct_walk, global_decl_walk, function_walk, proto_walk, no_function, item_walk, items_walk}
 use Rattle.c_types.proofs.BoundsPrograms.{inside_item}
 use Rattle.c_types.proofs.Outlined.{IsOutline}
 use Rattle.c_types.proofs.Walking.{Goes, ok_is, err_ok, goes_map, goes_in_turn, unvalued, in_list, flat, each_flat}

@@ -12,11 +12,11 @@ use Rattle.c_typed.specs.Marks as marks
 use Rattle.c_typed.specs.Marks.{Mark, Opening, global, prototype, opens, closes, History, Variable, globals_in}
 use Rattle.c_typed.specs.Whole.{Whole}
 use Rattle.c_typed.specs.Parts.{marked}
-use Rattle.c_typed.specs.Scopes.{Binding as Meant, bound}
-use Rattle.c_types.specs.Tables.{looked, put}
-use Rattle.c_types.specs.Outlines.{capped}
-use Rattle.c_types.specs.KnownSteps.{entered, exited}
-use Rattle.c_types.specs.ProgramSteps.{nothing_known, global_declared, prototype_declared}
+use Rattle.c_typed.specs.tools.Scopes.{Binding as Meant, bound}
+use Rattle.c_types.specs.tools.Tables.{looked, put}
+use Rattle.c_types.specs.tools.Outlines.{capped}
+use Rattle.c_types.specs.tools.KnownSteps.{entered, exited}
+use Rattle.c_types.specs.tools.ProgramSteps.{nothing_known, global_declared, prototype_declared}
 use Rattle.c_typed.proofs.Balanced.{Balanced, left_behind, unchanged, has_global_outside, has_function_outside, has_prototype_outside, functions_outside, globals_outside, global_words_outside}
 use Rattle.c_types.proofs.Outlined.{IsOutline}
 use Rattle.c_types.proofs.OutlineWords.{words_same, capped_sum}

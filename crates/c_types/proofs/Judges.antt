@@ -4,7 +4,7 @@ use Rattle.c_ast.specs.Ast.{Ast}
 use Rattle.c_typed.specs.declared.fault.TypeFault.{TypeFault}
 use Rattle.c_types.specs.declared.programs.Program.{Program}
 use Rattle.c_typed.specs.Faults.{Fault, IsFirst, told}
-use Rattle.c_types.specs.Steps.{Found}
+use Rattle.c_types.specs.tools.Steps.{Found}
 use Rattle.c_typed.specs.Typed.{Typed}
 use Rattle.c_typed.specs.Programs.{faults_of, typed_of}
 

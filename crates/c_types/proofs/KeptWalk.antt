@@ -18,13 +18,13 @@ use Rattle.c_types.specs.declared.known.Known.{Known}
 use Rattle.c_types.specs.declared.known.Around.{Around}
 use Rattle.c_typed.specs.Faults.{Rule, branches}
 use Rattle.c_typed.specs.Decls.{by_value}
-use Rattle.c_types.specs.Steps.{Found, ◌>>=◌, unless_kept, each, every, one}
-use Rattle.c_types.specs.Outlines.{base_walk, declared_type}
-use Rattle.c_types.specs.KnownSteps.{entered, exited}
-use Rattle.c_types.specs.DeclWalk as decls
-use Rattle.c_types.specs.DeclWalk.{local_item_walk, local_decl_walk, parameter_walk, params_walk}
-use Rattle.c_types.specs.StmtWalk as walk
-use Rattle.c_types.specs.StmtWalk.{Walk, same, scoped, branch_walk, start_walk, stmt_walk_step, stmt_walk, source_items_walk}
+use Rattle.c_types.specs.tools.Steps.{Found, ◌>>=◌, unless_kept, each, every, one}
+use Rattle.c_types.specs.tools.Outlines.{base_walk, declared_type}
+use Rattle.c_types.specs.tools.KnownSteps.{entered, exited}
+use Rattle.c_types.specs.tools.DeclWalk as decls
+use Rattle.c_types.specs.tools.DeclWalk.{local_item_walk, local_decl_walk, parameter_walk, params_walk}
+use Rattle.c_types.specs.tools.StmtWalk as walk
+use Rattle.c_types.specs.tools.StmtWalk.{Walk, same, scoped, branch_walk, start_walk, stmt_walk_step, stmt_walk, source_items_walk}
 use Rattle.c_types.proofs.StmtMaps.{mapped, items_of, blocks_of}
 use Rattle.c_types.proofs.WalkStmtLevels.{walk_stmt_roll}
 

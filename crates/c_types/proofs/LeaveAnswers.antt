@@ -14,11 +14,11 @@ use Rattle.c_typed.specs.Faults.{mismatch, escape, unless, told}
 use Rattle.c_typed.specs.Parts.{Place, Judged, Part, tokens, behind, kept_by, ruled_by, obeys, ◌<⊗◌, ◌⊗>◌}
 use Rattle.c_typed.specs.Stmts as stmts
 use Rattle.c_typed.specs.Stmts.{Layer, returns, value_there}
-use Rattle.c_types.specs.Answers.{Answers}
-use Rattle.c_types.specs.Steps.{Found, ◌>>=◌, kept, unless_kept}
-use Rattle.c_types.specs.StmtWalk.{returned, within_loop, value_there_walk}
+use Rattle.c_types.specs.tools.Answers.{Answers}
+use Rattle.c_types.specs.tools.Steps.{Found, ◌>>=◌, kept, unless_kept}
+use Rattle.c_types.specs.tools.StmtWalk.{returned, within_loop, value_there_walk}
 use Rattle.c_ast.specs.declared.stmt.Stmt.TheOpen.{Stmt-F as Source}
-use Rattle.c_types.specs.ExprWalk.{value, expr_walk}
+use Rattle.c_types.specs.tools.ExprWalk.{value, expr_walk}
 use Rattle.c_types.proofs.AnswerLaws.{AllFrom, least_append}
 use Rattle.c_types.proofs.Bounds.{from_append}
 use Rattle.c_types.proofs.BoundsStmts.{inside_value_there}

@@ -1,7 +1,7 @@
 -- What is known behind a walk of several steps.
 use Rattle.std.proofs.Common.{◌≡◌, ◌≢◌, Ok, Err, ap, sym, ◌∙◌, subst}
 use Rattle.c_typed.specs.declared.fault.TypeFault.{TypeFault}
-use Rattle.c_types.specs.Steps.{Found, ◌>>=◌, Leaves}
+use Rattle.c_types.specs.tools.Steps.{Found, ◌>>=◌, Leaves}
 
 -- an answer that tells a fault leaves nothing to be known
 pub told_leaves : {A K : Type 0} (r : Found A) (known : K) (found : Found (A × K)) (e : TypeFault) → r ≡ Err e → (e ≢ TypeFault.Memory → found ≡ Err e) → Leaves r known found

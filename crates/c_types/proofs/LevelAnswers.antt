@@ -15,11 +15,11 @@ use Rattle.c_typed.specs.Parts.{Place, Part, tokens, ◌<⊗◌, ◌⊗>◌}
 use Rattle.c_typed.specs.Tags.{type_name}
 use Rattle.c_typed.specs.Exprs as defined
 use Rattle.c_typed.specs.Exprs.{Reading, reading, one_of, expr, form_step, struct_at, struct_behind}
-use Rattle.c_types.specs.Answers.{Answers}
-use Rattle.c_types.specs.Steps.{Found}
-use Rattle.c_types.specs.Outlines.{type_name_walk}
-use Rattle.c_types.specs.ExprWalk as walk
-use Rattle.c_types.specs.ExprWalk.{Finding, finding, form_walk, expr_walk}
+use Rattle.c_types.specs.tools.Answers.{Answers}
+use Rattle.c_types.specs.tools.Steps.{Found}
+use Rattle.c_types.specs.tools.Outlines.{type_name_walk}
+use Rattle.c_types.specs.tools.ExprWalk as walk
+use Rattle.c_types.specs.tools.ExprWalk.{Finding, finding, form_walk, expr_walk}
 use Rattle.c_types.proofs.Bounds.{inside_tokens, bounded_first, bounded_second}
 use Rattle.c_types.proofs.BoundsExprs.{bounded, bounded_type_name}
 use Rattle.c_typed.proofs.Levels.{mapped_form, form_roll, expr_reads, read_form}

@@ -5,9 +5,9 @@ use Rattle.dfi_base.specs.declared.numbers.Line.{Line}
 use Rattle.c_typed.specs.declared.fault.BigWhat.{BigWhat}
 use Rattle.c_typed.specs.declared.fault.TypeFault.{TypeFault}
 use Rattle.c_typed.specs.Faults.{Fault, twice, mismatch, big, unless, told}
-use Rattle.c_types.specs.Answers.{precedes, earlier, least}
-use Rattle.c_types.specs.Steps.{Found}
-use Rattle.c_types.specs.DeclWalk.{declarator_rule}
+use Rattle.c_types.specs.tools.Answers.{precedes, earlier, least}
+use Rattle.c_types.specs.tools.Steps.{Found}
+use Rattle.c_types.specs.tools.DeclWalk.{declarator_rule}
 
 -- The faults of a name, in their order.
 abbrev pub name_faults : ℕ → Line → Bool → Bool → Bool → List Fault

@@ -16,10 +16,10 @@ use Rattle.c_typed.specs.Marks.{Mark, opens, closes, loop}
 use Rattle.c_typed.specs.Whole.{Whole}
 use Rattle.c_typed.specs.Parts.{Place, Part, tokens, mark, behind, ◌⊗◌, ◌<⊗◌, ◌⊗>◌}
 use Rattle.c_typed.specs.Stmts.{condition, condition_there, start, step, stmt_step, stmt}
-use Rattle.c_types.specs.Steps.{Found, ◌>>=◌}
-use Rattle.c_types.specs.KnownSteps.{entered, exited}
-use Rattle.c_types.specs.StmtWalk as walk
-use Rattle.c_types.specs.StmtWalk.{same, scoped, condition_walk, condition_there_walk, start_walk, step_walk, stmt_walk}
+use Rattle.c_types.specs.tools.Steps.{Found, ◌>>=◌}
+use Rattle.c_types.specs.tools.KnownSteps.{entered, exited}
+use Rattle.c_types.specs.tools.StmtWalk as walk
+use Rattle.c_types.specs.tools.StmtWalk.{same, scoped, condition_walk, condition_there_walk, start_walk, step_walk, stmt_walk}
 use Rattle.c_types.proofs.Bounds.{IsInside, inside, inside_tokens}
 use Rattle.c_types.proofs.BoundsDecls.{beside, before, after, inside_mark}
 use Rattle.c_types.proofs.BoundsStmts.{inside_stmt, inside_start, inside_step, inside_condition, inside_condition_there}

@@ -7,7 +7,7 @@ use Rattle.c_types.specs.declared.outline.Signature.{Signature as OutlineSignatu
 use Rattle.c_types.specs.declared.outline.Outline.{Outline}
 use Rattle.c_typed.specs.Whole.{Whole, Member, is_main}
 use Rattle.c_typed.specs.Programs.{main_in, main_number, struct_by}
-use Rattle.c_types.specs.ProgramWalk.{main_from, struct_of}
+use Rattle.c_types.specs.tools.ProgramWalk.{main_from, struct_of}
 use Rattle.c_types.proofs.Outlined.{IsOutline, member_of, signature_of}
 use Rattle.c_types.proofs.OutlineWords.{capped_within}
 use Rattle.c_types.proofs.OutlineShapes.{AreShapes}

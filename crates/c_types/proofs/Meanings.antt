@@ -10,9 +10,9 @@ use Rattle.c_typed.specs.Types.{place_of}
 use Rattle.c_typed.specs.Marks.{History, Variable}
 use Rattle.c_typed.specs.Whole.{Whole, Signature, Builtin, Meaning, meaning, spelling, builtin_of, is_main, function_named}
 use Rattle.c_typed.specs.Exprs.{is_malloc}
-use Rattle.c_types.specs.Tables.{looked}
-use Rattle.c_types.specs.Outlines as outlines
-use Rattle.c_types.specs.Outlines.{spelled, bound, means_malloc}
+use Rattle.c_types.specs.tools.Tables.{looked}
+use Rattle.c_types.specs.tools.Outlines as outlines
+use Rattle.c_types.specs.tools.Outlines.{spelled, bound, means_malloc}
 use Rattle.c_types.proofs.Outlined.{IsOutline, Names, spelled_builtin, spelled_so, number_below, signature_of, signature_at, variable_at, variable_of}
 
 pub data IsMet (w : Whole) (o : Outline) (h : History) (k : Known) (x : ℕ) : Type 0 where

@@ -7,10 +7,10 @@ use Rattle.c_typed.specs.Marks.{History}
 use Rattle.c_typed.specs.Whole as whole
 use Rattle.c_typed.specs.Whole.{Whole, Builtin, builtin_of, spelling}
 use Rattle.c_typed.specs.Programs as programs
-use Rattle.c_types.specs.Tables.{looked}
-use Rattle.c_types.specs.Outlines as outlines
-use Rattle.c_types.specs.Outlines.{spelled}
-use Rattle.c_types.specs.ProgramWalk as walk
+use Rattle.c_types.specs.tools.Tables.{looked}
+use Rattle.c_types.specs.tools.Outlines as outlines
+use Rattle.c_types.specs.tools.Outlines.{spelled}
+use Rattle.c_types.specs.tools.ProgramWalk as walk
 use Rattle.c_types.proofs.Outlined.{IsOutline, spelled_so}
 use Rattle.c_types.proofs.Meanings.{main_plain}
 use Rattle.c_types.proofs.OuterStands.{Outer}

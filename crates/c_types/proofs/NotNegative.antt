@@ -11,7 +11,7 @@ use Rattle.c_ast.specs.declared.program.Item.{Item}
 use Rattle.c_ast.specs.Leaves.{Leaf, number, Leaves, of_all, of_option, of_base, of_declarator, of_decl_item, of_item, expr_step, of_expr, leaves_of}
 use Rattle.c_ast.specs.Ast.{IsWritten}
 use Rattle.c_typed.specs.Programs.{number_of}
-use Rattle.c_types.specs.Negatable.{NotNegative, Negatable, NegatableValue, NegatableStarts}
+use Rattle.c_types.specs.tools.Negatable.{NotNegative, Negatable, NegatableValue, NegatableStarts}
 
 left_of : {X : Type 0} (P : X → Type 0) (xs ys : List X) → All P (xs ++ ys) → All P xs
 left_of P [] ys all = All-nil P

@@ -9,10 +9,10 @@ use Rattle.c_typed.specs.Whole.{Whole}
 use Rattle.c_typed.specs.Faults.{Fault}
 use Rattle.c_typed.specs.Parts.{Place, Part, tokens, mark, with_faults, separated, behind, ◌<⊗◌, ◌⊗>◌}
 use Rattle.c_typed.specs.Tags.{base}
-use Rattle.c_types.specs.Answers.{least}
-use Rattle.c_types.specs.Steps.{Found, ◌>>=◌, each, one}
-use Rattle.c_types.specs.Outlines.{base_walk}
-use Rattle.c_types.specs.StmtWalk.{same}
+use Rattle.c_types.specs.tools.Answers.{least}
+use Rattle.c_types.specs.tools.Steps.{Found, ◌>>=◌, each, one}
+use Rattle.c_types.specs.tools.Outlines.{base_walk}
+use Rattle.c_types.specs.tools.StmtWalk.{same}
 use Rattle.c_types.proofs.Bounds.{IsInside, inside}
 use Rattle.c_types.proofs.BoundsExprs.{bounded_base}
 use Rattle.c_types.proofs.BoundsDecls.{inside_separated, all_inside}

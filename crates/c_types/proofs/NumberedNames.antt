@@ -7,8 +7,8 @@ use Rattle.c_types.specs.declared.table.Table.{Table}
 use Rattle.c_types.specs.declared.numbering.Numbering.{Numbering}
 use Rattle.c_typed.specs.Types.{place_of}
 use Rattle.c_typed.specs.Whole.{struct_defs, signatures}
-use Rattle.c_types.specs.Tables.{looked, put}
-use Rattle.c_types.specs.OutlineWalk.{no_numbers, first, next, with_tag, with_function, numbered}
+use Rattle.c_types.specs.tools.Tables.{looked, put}
+use Rattle.c_types.specs.tools.OutlineWalk.{no_numbers, first, next, with_tag, with_function, numbered}
 use Rattle.c_types.proofs.Outlined.{number_below}
 use Rattle.c_types.proofs.Bindings.{when, looked_put, same_name, none_some}
 

@@ -4,9 +4,9 @@ use Rattle.c_types.specs.declared.known.Known.{Known}
 use Rattle.c_typed.specs.Marks.{History, has_global, has_function, has_prototype, functions_in, globals_in, global_words}
 use Rattle.c_typed.specs.Whole.{Whole}
 use Rattle.c_typed.specs.Parts.{Place, Part, marked}
-use Rattle.c_types.specs.Tables.{looked}
-use Rattle.c_types.specs.Outlines.{capped}
-use Rattle.c_types.specs.Steps.{Found}
+use Rattle.c_types.specs.tools.Tables.{looked}
+use Rattle.c_types.specs.tools.Outlines.{capped}
+use Rattle.c_types.specs.tools.Steps.{Found}
 use Rattle.c_types.proofs.Tells.{Tells}
 use Rattle.c_types.proofs.Standing.{Stands, IsFramed}
 use Rattle.c_types.proofs.Walking.{result_of}

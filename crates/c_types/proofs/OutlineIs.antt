@@ -15,11 +15,11 @@ use Rattle.c_typed.specs.Types as types
 use Rattle.c_typed.specs.Types.{place_of, parameter_stars}
 use Rattle.c_typed.specs.Whole as whole
 use Rattle.c_typed.specs.Whole.{Whole, Builtin, builtin_of, struct_defs, members, whole_of}
-use Rattle.c_types.specs.Tables.{looked}
-use Rattle.c_types.specs.Outlines as outlines
-use Rattle.c_types.specs.Outlines.{spelled}
-use Rattle.c_types.specs.OutlineWalk as walk
-use Rattle.c_types.specs.OutlineWalk.{spelling_of, no_numbers, with_tag, with_function, numbered, bare, with_shapes, shaped, outline_of}
+use Rattle.c_types.specs.tools.Tables.{looked}
+use Rattle.c_types.specs.tools.Outlines as outlines
+use Rattle.c_types.specs.tools.Outlines.{spelled}
+use Rattle.c_types.specs.tools.OutlineWalk as walk
+use Rattle.c_types.specs.tools.OutlineWalk.{spelling_of, no_numbers, with_tag, with_function, numbered, bare, with_shapes, shaped, outline_of}
 use Rattle.c_types.proofs.Outlined.{IsTagged, IsOutline, spelled_builtin, spelled_so, number_below, signature_of, signature_at, pointers_by}
 use Rattle.c_types.proofs.NumberedNames.{tags_numbered, functions_numbered, names_looked, names_counted}
 use Rattle.c_types.proofs.OutlineShapes.{AreShapes, shapes_are, shaped_alone, shapes_count, members_there, words_there, tagged_with}

@@ -13,9 +13,9 @@ use Rattle.c_types.specs.declared.outline.Outline.{Outline}
 use Rattle.c_typed.specs.Types as types
 use Rattle.c_typed.specs.Whole as whole
 use Rattle.c_typed.specs.Whole.{Member, struct_defs, members, members_words, sizes_of}
-use Rattle.c_types.specs.Outlines.{capped, shape_words}
-use Rattle.c_types.specs.OutlineWalk as walk
-use Rattle.c_types.specs.OutlineWalk.{words_from, shape_of, with_shapes, shaped}
+use Rattle.c_types.specs.tools.Outlines.{capped, shape_words}
+use Rattle.c_types.specs.tools.OutlineWalk as walk
+use Rattle.c_types.specs.tools.OutlineWalk.{words_from, shape_of, with_shapes, shaped}
 use Rattle.c_types.proofs.Outlined.{IsTagged, member_of, members_of, base_by}
 use Rattle.c_types.proofs.OutlineWords.{words_by, capped_sum}
 

@@ -6,8 +6,8 @@ use Rattle.c_typed.specs.declared.types.ObjectType.{ObjectType}
 use Rattle.c_types.specs.declared.outline.Outline.{Outline}
 use Rattle.c_typed.specs.Types as types
 use Rattle.c_typed.specs.Whole.{Whole}
-use Rattle.c_types.specs.Outlines as outlines
-use Rattle.c_types.specs.Outlines.{capped, shape_words}
+use Rattle.c_types.specs.tools.Outlines as outlines
+use Rattle.c_types.specs.tools.Outlines.{capped, shape_words}
 use Rattle.c_types.proofs.Outlined.{IsOutline}
 
 pub capped_within : (n : ℕ) → n ≤ 24576 → capped n ≡ n

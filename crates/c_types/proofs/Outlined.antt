@@ -19,9 +19,9 @@ use Rattle.c_typed.specs.Types.{place_of}
 use Rattle.c_typed.specs.Marks.{History, Variable, variable, has_tag}
 use Rattle.c_typed.specs.Whole.{Whole, Member, Signature, Builtin, spelling, builtin_of}
 use Rattle.c_typed.specs.Whole as whole
-use Rattle.c_types.specs.Tables.{looked}
-use Rattle.c_types.specs.Outlines
-use Rattle.c_types.specs.Outlines.{spelled, bound, number_of, capped, shape_words}
+use Rattle.c_types.specs.tools.Tables.{looked}
+use Rattle.c_types.specs.tools.Outlines
+use Rattle.c_types.specs.tools.Outlines.{spelled, bound, number_of, capped, shape_words}
 
 -- What is looked up, as the definition sees it.
 abbrev pub spelled_builtin : Option Builtin → Spelling

@@ -21,11 +21,11 @@ use Rattle.c_typed.specs.Parts.{Place, Part, tokens, mark, behind, kept_by, with
 use Rattle.c_typed.specs.Tags.{base, is_tag}
 use Rattle.c_typed.specs.Decls.{bracket_items, bracket_tokens, is_scalar, frame_limit, frame_faults, parameter_base, parameter_faults, parameter}
 use Rattle.c_typed.specs.Programs.{parameters}
-use Rattle.c_types.specs.Steps.{Found, ◌>>=◌, unless_kept, each, one}
-use Rattle.c_types.specs.Outlines as outlines
-use Rattle.c_types.specs.Outlines.{capped, base_walk}
-use Rattle.c_types.specs.KnownSteps.{declare_local}
-use Rattle.c_types.specs.DeclWalk.{first_rule, no_fault, parameter_fault, framed, parameter_walk, params_walk}
+use Rattle.c_types.specs.tools.Steps.{Found, ◌>>=◌, unless_kept, each, one}
+use Rattle.c_types.specs.tools.Outlines as outlines
+use Rattle.c_types.specs.tools.Outlines.{capped, base_walk}
+use Rattle.c_types.specs.tools.KnownSteps.{declare_local}
+use Rattle.c_types.specs.tools.DeclWalk.{first_rule, no_fault, parameter_fault, framed, parameter_walk, params_walk}
 use Rattle.c_types.proofs.AnswerLaws.{AllFrom}
 use Rattle.c_types.proofs.Bounds.{IsInside, inside, inside_tokens, from_append}
 use Rattle.c_types.proofs.BoundsExprs.{bounded_base}

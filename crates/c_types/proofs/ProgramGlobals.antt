@@ -26,16 +26,16 @@ use Rattle.c_typed.specs.Faults.{Rule, twice, mismatch}
 use Rattle.c_typed.specs.Decls.{is_scalar, has_items, by_value, joined_lists}
 use Rattle.c_typed.specs.Programs as programs
 use Rattle.c_typed.specs.Programs.{start_of, globals_by}
-use Rattle.c_types.specs.Tables.{looked}
-use Rattle.c_types.specs.Steps.{Found, ◌>>=◌, broken, unless_kept, each, every, if_some}
-use Rattle.c_types.specs.Outlines as outlines
-use Rattle.c_types.specs.Outlines.{base_walk}
-use Rattle.c_types.specs.DeclWalk as decls
-use Rattle.c_types.specs.DeclWalk.{declarator_rule, nameless_walk, named_walk, proto_parameter_walk, proto_params_walk}
-use Rattle.c_types.specs.KnownSteps.{entered, exited, declare_local}
-use Rattle.c_types.specs.ProgramSteps.{struct_begun, field_declared, struct_ended, global_declared, prototype_declared}
-use Rattle.c_types.specs.ProgramWalk as walk
-use Rattle.c_types.specs.ProgramWalk.{started, global_by, global_item_walk, field_item_walk, field_line_walk, fields_walk, struct_walk, global_decl_walk, function_walk, proto_scope_walk, proto_walk, item_walk, items_walk}
+use Rattle.c_types.specs.tools.Tables.{looked}
+use Rattle.c_types.specs.tools.Steps.{Found, ◌>>=◌, broken, unless_kept, each, every, if_some}
+use Rattle.c_types.specs.tools.Outlines as outlines
+use Rattle.c_types.specs.tools.Outlines.{base_walk}
+use Rattle.c_types.specs.tools.DeclWalk as decls
+use Rattle.c_types.specs.tools.DeclWalk.{declarator_rule, nameless_walk, named_walk, proto_parameter_walk, proto_params_walk}
+use Rattle.c_types.specs.tools.KnownSteps.{entered, exited, declare_local}
+use Rattle.c_types.specs.tools.ProgramSteps.{struct_begun, field_declared, struct_ended, global_declared, prototype_declared}
+use Rattle.c_types.specs.tools.ProgramWalk as walk
+use Rattle.c_types.specs.tools.ProgramWalk.{started, global_by, global_item_walk, field_item_walk, field_line_walk, fields_walk, struct_walk, global_decl_walk, function_walk, proto_scope_walk, proto_walk, item_walk, items_walk}
 use Rattle.c_types.proofs.Outlined.{IsOutline, base_same}
 use Rattle.c_types.proofs.Walking.{ok_is, err_ok}
 use Rattle.c_types.proofs.FunctionAnswers.{function_declares}

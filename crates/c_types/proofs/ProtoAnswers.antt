@@ -22,13 +22,13 @@ use Rattle.c_typed.specs.Faults.{unknown, twice, mismatch}
 use Rattle.c_typed.specs.Parts.{Place, Part, marked, tokens, mark, behind, with_faults, ◌<⊗◌, ◌⊗>◌}
 use Rattle.c_typed.specs.Programs as programs
 use Rattle.c_typed.specs.Programs.{has_scalar_result, is_int, no_proto_parameters, same_objects, same_result, types_in, result_base, proto_faults, proto_parameters, proto}
-use Rattle.c_types.specs.Steps.{Found, ◌>>=◌, unless_kept}
-use Rattle.c_types.specs.Outlines as outlines
-use Rattle.c_types.specs.DeclWalk.{no_fault, proto_params_walk}
-use Rattle.c_types.specs.KnownSteps.{entered, exited}
-use Rattle.c_types.specs.ProgramSteps.{prototype_declared}
-use Rattle.c_types.specs.ProgramWalk as walk
-use Rattle.c_types.specs.ProgramWalk.{result_walk, defined_at, defined, is_plain_proto, proto_name_walk, proto_walk}
+use Rattle.c_types.specs.tools.Steps.{Found, ◌>>=◌, unless_kept}
+use Rattle.c_types.specs.tools.Outlines as outlines
+use Rattle.c_types.specs.tools.DeclWalk.{no_fault, proto_params_walk}
+use Rattle.c_types.specs.tools.KnownSteps.{entered, exited}
+use Rattle.c_types.specs.tools.ProgramSteps.{prototype_declared}
+use Rattle.c_types.specs.tools.ProgramWalk as walk
+use Rattle.c_types.specs.tools.ProgramWalk.{result_walk, defined_at, defined, is_plain_proto, proto_name_walk, proto_walk}
 use Rattle.c_types.proofs.Bounds.{IsInside, inside_tokens, inside_joined}
 use Rattle.c_types.proofs.BoundsDecls.{before, inside_mark, inside_with, within_append, within_unless}
 use Rattle.c_types.proofs.BoundsPrograms.{inside_result_base, inside_proto_parameters}

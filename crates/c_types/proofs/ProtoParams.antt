@@ -22,12 +22,12 @@ use Rattle.c_typed.specs.Parts.{Place, Judged, Part, marked, tokens, mark, behin
 use Rattle.c_typed.specs.Tags.{base}
 use Rattle.c_typed.specs.Decls.{bracket_items, bracket_tokens, is_scalar, parameter_base, parameter_faults, nameless, named, proto_parameter}
 use Rattle.c_typed.specs.Programs.{proto_parameters}
-use Rattle.c_types.specs.Answers.{least, Answers, Rules}
-use Rattle.c_types.specs.Steps.{Found, ◌>>=◌, unless_kept, each, one}
-use Rattle.c_types.specs.Outlines.{base_walk}
-use Rattle.c_types.specs.KnownSteps.{declare_local}
-use Rattle.c_types.specs.DeclWalk.{first_rule, no_fault, parameter_fault, nameless_walk, named_walk, proto_parameter_walk, proto_params_walk}
-use Rattle.c_types.specs.StmtWalk.{same}
+use Rattle.c_types.specs.tools.Answers.{least, Answers, Rules}
+use Rattle.c_types.specs.tools.Steps.{Found, ◌>>=◌, unless_kept, each, one}
+use Rattle.c_types.specs.tools.Outlines.{base_walk}
+use Rattle.c_types.specs.tools.KnownSteps.{declare_local}
+use Rattle.c_types.specs.tools.DeclWalk.{first_rule, no_fault, parameter_fault, nameless_walk, named_walk, proto_parameter_walk, proto_params_walk}
+use Rattle.c_types.specs.tools.StmtWalk.{same}
 use Rattle.c_types.proofs.AnswerLaws.{ruled_ok, ruled_err}
 use Rattle.c_types.proofs.Bounds.{IsInside, inside, inside_tokens}
 use Rattle.c_types.proofs.BoundsExprs.{bounded_base}

@@ -3,8 +3,8 @@ use Rattle.std.proofs.Common.{◌≡◌, ℕ, zero, suc, ◌-◌, ◌<◌, ◌�
 use Rattle.c_types.specs.declared.table.Table.{Table}
 use Rattle.c_types.specs.declared.scopes.Binding.{Binding}
 use Rattle.c_types.specs.declared.scopes.Scopes.{Scopes}
-use Rattle.c_types.specs.Tables.{put}
-use Rattle.c_types.specs.KnownSteps.{start_of, without_last, restored, bindings_from, closed}
+use Rattle.c_types.specs.tools.Tables.{put}
+use Rattle.c_types.specs.tools.KnownSteps.{start_of, without_last, restored, bindings_from, closed}
 use Rattle.c_types.proofs.TableLaws.{past}
 
 pub start_past : (ns : List ℕ) → slice_get ns (length ns - 1) ≡ None → 0 ≡ start_of ns

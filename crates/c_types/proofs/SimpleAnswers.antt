@@ -15,11 +15,11 @@ use Rattle.c_typed.specs.Faults.{mismatch}
 use Rattle.c_typed.specs.Parts.{Place, tokens, behind, obeys, ◌⊗◌, ◌<⊗◌, ◌⊗>◌}
 use Rattle.c_typed.specs.Exprs.{Reading, expr, value, place, call}
 use Rattle.c_typed.specs.Stmts.{Layer, tested, assigned, counted, simple, condition, condition_by, value_there, condition_there}
-use Rattle.c_types.specs.Answers.{Answers}
-use Rattle.c_types.specs.Steps.{◌>>=◌, kept}
-use Rattle.c_types.specs.ExprWalk as walk
-use Rattle.c_types.specs.ExprWalk.{Finding, expr_walk}
-use Rattle.c_types.specs.StmtWalk.{condition_walk, condition_there_walk, simple_walk, value_there_walk}
+use Rattle.c_types.specs.tools.Answers.{Answers}
+use Rattle.c_types.specs.tools.Steps.{◌>>=◌, kept}
+use Rattle.c_types.specs.tools.ExprWalk as walk
+use Rattle.c_types.specs.tools.ExprWalk.{Finding, expr_walk}
+use Rattle.c_types.specs.tools.StmtWalk.{condition_walk, condition_there_walk, simple_walk, value_there_walk}
 use Rattle.c_types.proofs.Bounds.{inside, inside_tokens, inside_joined}
 use Rattle.c_types.proofs.BoundsExprs.{bounded_value, bounded_place}
 use Rattle.c_types.proofs.FormLaws.{after_tokens, before_tokens}

@@ -11,10 +11,10 @@ use Rattle.c_typed.specs.Types as types
 use Rattle.c_typed.specs.Marks.{Mark, tag, field, global, prototype, function, local, opens, closes, Opening, History, Variable, is_declared, has_tag, locals_in, frame_words, result_at}
 use Rattle.c_typed.specs.Whole.{Whole}
 use Rattle.c_typed.specs.Parts.{marked}
-use Rattle.c_typed.specs.Scopes.{Binding as Meant, Scopes as Open, bound, left, scopes_of, find_in, find}
-use Rattle.c_types.specs.Tables.{looked}
-use Rattle.c_types.specs.Outlines.{binding_by, capped}
-use Rattle.c_types.specs.KnownSteps.{is_bound_here, entered, exited, frame_with, declare_local}
+use Rattle.c_typed.specs.tools.Scopes.{Binding as Meant, Scopes as Open, bound, left, scopes_of, find_in, find}
+use Rattle.c_types.specs.tools.Tables.{looked}
+use Rattle.c_types.specs.tools.Outlines.{binding_by, capped}
+use Rattle.c_types.specs.tools.KnownSteps.{is_bound_here, entered, exited, frame_with, declare_local}
 use Rattle.c_typed.proofs.ScopeLaws.{variable_found}
 use Rattle.c_typed.proofs.Balanced.{Balanced, marked_scope, left_behind}
 use Rattle.c_types.proofs.Outlined.{IsOutline, Names, variable_of}

@@ -18,9 +18,9 @@ use Rattle.c_typed.specs.Whole.{Whole}
 use Rattle.c_typed.specs.Parts.{Place, Part, tokens, ◌<$>◌}
 use Rattle.c_typed.specs.Stmts.{Layer, empty, within_loop, stmt_step, stmt}
 use Rattle.c_typed.specs.Programs.{function_body}
-use Rattle.c_types.specs.Steps.{Found}
-use Rattle.c_types.specs.StmtWalk as walk
-use Rattle.c_types.specs.StmtWalk.{same, returned, value_there_walk, stmt_walk, source_items_walk}
+use Rattle.c_types.specs.tools.Steps.{Found}
+use Rattle.c_types.specs.tools.StmtWalk as walk
+use Rattle.c_types.specs.tools.StmtWalk.{same, returned, value_there_walk, stmt_walk, source_items_walk}
 use Rattle.c_typed.proofs.Levels.{with_parts}
 use Rattle.c_typed.proofs.Quiet.{no_marks}
 use Rattle.c_typed.proofs.BalancedStmts.{quiet_value_there}

@@ -19,14 +19,14 @@ use Rattle.c_typed.specs.Faults.{Fault, twice, big, unless, told_by}
 use Rattle.c_typed.specs.Parts.{Place, Part, marked, tokens, mark, with_faults, behind, in_turn, ◌<⊗◌, ◌⊗>◌}
 use Rattle.c_typed.specs.Decls.{has_items, type_limit, name_at, by_value, declarator_tokens, field_faults, field_item, fields}
 use Rattle.c_typed.specs.Programs.{struct}
-use Rattle.c_types.specs.Answers.{least}
-use Rattle.c_types.specs.Steps.{Found, ◌>>=◌, each, one, every, unless_kept}
-use Rattle.c_types.specs.Outlines as outlines
-use Rattle.c_types.specs.Outlines.{capped}
-use Rattle.c_types.specs.Tables.{looked}
-use Rattle.c_types.specs.DeclWalk.{declarator_rule}
-use Rattle.c_types.specs.ProgramSteps.{struct_begun, field_declared, struct_ended}
-use Rattle.c_types.specs.ProgramWalk.{field_first, field_fault, field_by, field_item_walk, field_line_walk, fields_walk, struct_walk}
+use Rattle.c_types.specs.tools.Answers.{least}
+use Rattle.c_types.specs.tools.Steps.{Found, ◌>>=◌, each, one, every, unless_kept}
+use Rattle.c_types.specs.tools.Outlines as outlines
+use Rattle.c_types.specs.tools.Outlines.{capped}
+use Rattle.c_types.specs.tools.Tables.{looked}
+use Rattle.c_types.specs.tools.DeclWalk.{declarator_rule}
+use Rattle.c_types.specs.tools.ProgramSteps.{struct_begun, field_declared, struct_ended}
+use Rattle.c_types.specs.tools.ProgramWalk.{field_first, field_fault, field_by, field_item_walk, field_line_walk, fields_walk, struct_walk}
 use Rattle.c_types.proofs.AnswerLaws.{AllBefore, AllFrom}
 use Rattle.c_types.proofs.BoundsDecls.{inside_field_item, inside_fields, inside_in_turn, all_inside}
 use Rattle.c_typed.proofs.Balanced.{marked_append}

@@ -3,8 +3,8 @@ use Rattle.std.proofs.Common.{◌≡◌, ℕ, zero, suc, ◌<◌, ◌≤◌, Lis
 use Rattle.c_types.specs.declared.outline.Outline.{Outline}
 use Rattle.c_types.specs.declared.outline.Spelling.{Spelling}
 use Rattle.c_types.specs.declared.table.Table.{Table}
-use Rattle.c_types.specs.Outlines.{spelled}
-use Rattle.c_types.specs.Tables.{looked, put_in}
+use Rattle.c_types.specs.tools.Outlines.{spelled}
+use Rattle.c_types.specs.tools.Tables.{looked, put_in}
 
 abbrev pub read_by : Option (Option ℕ) → Option ℕ
 read_by None = None

@@ -7,7 +7,7 @@ use Rattle.c_typed.specs.declared.fault.TypeFault.{TypeFault}
 use Rattle.c_typed.specs.Marks.{Mark}
 use Rattle.c_typed.specs.Faults.{Rule, Fault, told}
 use Rattle.c_typed.specs.Parts.{Place, Judged, Part, tokens, given, mark, joined, behind, both_values, kept_by, ruled_by, ruled, with_faults, separated, in_turn, ◌<⊗◌, ◌⊗>◌, ◌<$>◌}
-use Rattle.c_types.specs.Answers.{least, earlier, Answers}
+use Rattle.c_types.specs.tools.Answers.{least, earlier, Answers}
 use Rattle.c_types.proofs.AnswerLaws.{AllBefore, AllFrom, least_append, or_else}
 use Rattle.c_types.proofs.Bounds.{IsInside}
 

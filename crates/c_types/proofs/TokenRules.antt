@@ -4,8 +4,8 @@ use Rattle.std.proofs.lemmas.Bool.Decides.{nat_tests}
 use Rattle.std.proofs.lemmas.List.{append-nil}
 use Rattle.dfi_base.specs.declared.numbers.Line.{Line}
 use Rattle.c_typed.specs.Faults.{Rule, Fault, twice, mismatch, unless, told, order}
-use Rattle.c_types.specs.Answers.{earlier, least}
-use Rattle.c_types.specs.DeclWalk.{declarator_rule, no_fault}
+use Rattle.c_types.specs.tools.Answers.{earlier, least}
+use Rattle.c_types.specs.tools.DeclWalk.{declarator_rule, no_fault}
 use Rattle.c_typed.proofs.TypesSame.{and_false}
 use Rattle.c_types.proofs.LocalAnswers.{head, told_there, IsFirstTold, together}
 

@@ -20,15 +20,15 @@ use Rattle.c_typed.specs.Parts.{Place, Judged, Part, marked, tokens, behind, kep
 use Rattle.c_typed.specs.Exprs.{expr, value}
 use Rattle.c_typed.specs.Decls as decls
 use Rattle.c_typed.specs.Decls.{has_items, type_limit, frame_limit, name_at, declared, starts_with}
-use Rattle.c_types.specs.Answers.{precedes, earlier, least, Answers}
-use Rattle.c_types.specs.Steps.{Found, ◌>>=◌, if_some}
-use Rattle.c_types.specs.Outlines as outlines
-use Rattle.c_types.specs.Outlines.{capped}
-use Rattle.c_types.specs.ExprWalk as walk
-use Rattle.c_types.specs.ExprWalk.{expr_walk}
-use Rattle.c_types.specs.DeclWalk as steps
-use Rattle.c_types.specs.DeclWalk.{name_fault, name_first, declarator_rule, valued_by, assigned, local_walk}
-use Rattle.c_types.specs.KnownSteps.{declare_local}
+use Rattle.c_types.specs.tools.Answers.{precedes, earlier, least, Answers}
+use Rattle.c_types.specs.tools.Steps.{Found, ◌>>=◌, if_some}
+use Rattle.c_types.specs.tools.Outlines as outlines
+use Rattle.c_types.specs.tools.Outlines.{capped}
+use Rattle.c_types.specs.tools.ExprWalk as walk
+use Rattle.c_types.specs.tools.ExprWalk.{expr_walk}
+use Rattle.c_types.specs.tools.DeclWalk as steps
+use Rattle.c_types.specs.tools.DeclWalk.{name_fault, name_first, declarator_rule, valued_by, assigned, local_walk}
+use Rattle.c_types.specs.tools.KnownSteps.{declare_local}
 use Rattle.c_types.proofs.Bounds.{IsInside, inside}
 use Rattle.c_types.proofs.BoundsExprs.{bounded_value}
 use Rattle.c_types.proofs.BoundsDecls.{bounded_declared}

@@ -4,9 +4,9 @@ use Rattle.c_types.specs.declared.known.Known.{Known}
 use Rattle.c_typed.specs.Marks.{Mark, Opening, opens, closes, History}
 use Rattle.c_typed.specs.Whole.{Whole}
 use Rattle.c_typed.specs.Parts.{Place, Part, marked, mark, behind, ◌<⊗◌, ◌⊗>◌}
-use Rattle.c_types.specs.Steps.{Found, ◌>>=◌}
-use Rattle.c_types.specs.KnownSteps.{entered, exited}
-use Rattle.c_types.specs.StmtWalk.{scoped}
+use Rattle.c_types.specs.tools.Steps.{Found, ◌>>=◌}
+use Rattle.c_types.specs.tools.KnownSteps.{entered, exited}
+use Rattle.c_types.specs.tools.StmtWalk.{scoped}
 use Rattle.c_typed.proofs.Balanced.{Balanced, marked_append, left_behind}
 use Rattle.c_types.proofs.Tells.{tells_after_mark, tells_before_mark}
 use Rattle.c_types.proofs.Standing.{Stands, Inner, IsFramed, stands_opens, stands_closes, inner_opens, inner_closed}

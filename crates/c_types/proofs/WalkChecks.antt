@@ -11,11 +11,11 @@ use Rattle.c_typed.specs.Faults.{Fault, no_main, unless}
 use Rattle.c_typed.specs.Parts.{Place}
 use Rattle.c_typed.specs.Decls.{joined_lists}
 use Rattle.c_typed.specs.Programs.{text, judged, main_number, functions_by, faults_of, typed_of}
-use Rattle.c_types.specs.Answers.{least}
-use Rattle.c_types.specs.Steps.{Found, ◌>>=◌, each, one, kept}
-use Rattle.c_types.specs.OutlineWalk.{outline_of}
-use Rattle.c_types.specs.ProgramSteps.{nothing_known}
-use Rattle.c_types.specs.ProgramWalk.{items_walk, main_walk, parts_of, program_walk}
+use Rattle.c_types.specs.tools.Answers.{least}
+use Rattle.c_types.specs.tools.Steps.{Found, ◌>>=◌, each, one, kept}
+use Rattle.c_types.specs.tools.OutlineWalk.{outline_of}
+use Rattle.c_types.specs.tools.ProgramSteps.{nothing_known}
+use Rattle.c_types.specs.tools.ProgramWalk.{items_walk, main_walk, parts_of, program_walk}
 use Rattle.c_types.proofs.First.{least_is_first}
 use Rattle.c_types.proofs.AnswerLaws.{AllFrom, or_else, least_append}
 use Rattle.c_types.proofs.BoundsPrograms.{inside_text}

@@ -10,8 +10,8 @@ use Rattle.c_typed.specs.declared.fault.TypeFault.{TypeFault}
 use Rattle.c_typed.specs.declared.expr.Expr.{Expr}
 use Rattle.c_types.specs.declared.outline.Outline.{Outline}
 use Rattle.c_types.specs.declared.known.Known.{Known}
-use Rattle.c_types.specs.Steps.{Found, ◌>>=◌, Finds, Leaves}
-use Rattle.c_types.specs.ExprWalk.{Finding, expr_walk}
+use Rattle.c_types.specs.tools.Steps.{Found, ◌>>=◌, Finds, Leaves}
+use Rattle.c_types.specs.tools.ExprWalk.{Finding, expr_walk}
 use Rattle.c_types.proofs.WalkLevels.{walk_roll}
 
 pub first_fails : {A B : Type 0} (f : Found A) (g : A → Found B) (e : TypeFault) → Finds (Err e) f → Finds (Err e) (f >>= g)

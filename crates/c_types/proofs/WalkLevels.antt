@@ -11,7 +11,7 @@ use Rattle.c_ast.specs.declared.expr.Form.{fold-roll-Form, roll-out-Form, out-Fo
 use Rattle.c_ast.specs.declared.expr.Form.TheOpen.{Form-F as Source}
 use Rattle.c_types.specs.declared.outline.Outline.{Outline}
 use Rattle.c_types.specs.declared.known.Known.{Known}
-use Rattle.c_types.specs.ExprWalk.{Finding, form_walk, expr_walk}
+use Rattle.c_types.specs.tools.ExprWalk.{Finding, form_walk, expr_walk}
 
 abbrev pub find_form : Outline → Known → SourceForm → Line → Finding
 find_form o k = fold-Form (Line → Finding) Finding (form_walk o k) (λ e. e.form e.line)

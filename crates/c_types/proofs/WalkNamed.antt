@@ -21,11 +21,11 @@ use Rattle.c_types.specs.declared.known.Known.{Known}
 use Rattle.c_typed.specs.declared.expr.Form.TheOpen.{Form-F}
 use Rattle.c_typed.specs.Exprs.{Layer, Size, struct_at, struct_behind}
 use Rattle.c_typed.specs.Faults.{Rule, told_by, unknown, twice, mismatch, not_lvalue, escape, branches, big, no_main}
-use Rattle.c_types.specs.Steps.{Found, ◌>>=◌, broken, kept, unless_kept}
-use Rattle.c_types.specs.Tables.{looked}
-use Rattle.c_types.specs.Outlines.{spelled, bound, base_walk, type_name_walk, has_tag}
-use Rattle.c_types.specs.ExprWalk as walk
-use Rattle.c_types.specs.ExprWalk.{Finding, form_walk, expr_walk}
+use Rattle.c_types.specs.tools.Steps.{Found, ◌>>=◌, broken, kept, unless_kept}
+use Rattle.c_types.specs.tools.Tables.{looked}
+use Rattle.c_types.specs.tools.Outlines.{spelled, bound, base_walk, type_name_walk, has_tag}
+use Rattle.c_types.specs.tools.ExprWalk as walk
+use Rattle.c_types.specs.tools.ExprWalk.{Finding, form_walk, expr_walk}
 use Rattle.c_types.proofs.WalkLevels.{find_form, found_form, walk_form_roll, walk_reads}
 
 abbrev IsRule : TypeFault → Type 0

@@ -17,9 +17,9 @@ use Rattle.c_types.specs.declared.outline.Outline.{Outline}
 use Rattle.c_types.specs.declared.known.Known.{Known}
 use Rattle.c_types.specs.declared.known.Around.{Around}
 use Rattle.c_typed.specs.Faults.{branches}
-use Rattle.c_types.specs.Steps.{Found, ◌>>=◌, unless_kept, each, one}
-use Rattle.c_types.specs.KnownSteps.{entered, exited}
-use Rattle.c_types.specs.StmtWalk
+use Rattle.c_types.specs.tools.Steps.{Found, ◌>>=◌, unless_kept, each, one}
+use Rattle.c_types.specs.tools.KnownSteps.{entered, exited}
+use Rattle.c_types.specs.tools.StmtWalk
 use Rattle.c_types.proofs.StmtMaps.{mapped, with_item, with_block, items_mapped, blocks_mapped}
 
 abbrev W : Type 0

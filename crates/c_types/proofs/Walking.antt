@@ -7,8 +7,8 @@ use Rattle.c_types.specs.declared.known.Known.{Known}
 use Rattle.c_typed.specs.Marks.{History}
 use Rattle.c_typed.specs.Parts.{Place, Part, marked, tokens, given, joined, behind, separated, in_turn, ◌<⊗◌, ◌⊗>◌, ◌<$>◌}
 use Rattle.c_typed.specs.Decls.{joined_lists}
-use Rattle.c_types.specs.Steps.{Found, ◌>>=◌, each, every, one, if_some}
-use Rattle.c_types.specs.StmtWalk.{same}
+use Rattle.c_types.specs.tools.Steps.{Found, ◌>>=◌, each, every, one, if_some}
+use Rattle.c_types.specs.tools.StmtWalk.{same}
 use Rattle.c_types.proofs.Bounds.{IsInside, inside_tokens, inside_given, inside_joined}
 use Rattle.c_types.proofs.BoundsDecls.{inside_separated, inside_in_turn, all_inside}
 use Rattle.c_typed.proofs.Balanced.{marked_append}

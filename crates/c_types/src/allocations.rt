@@ -8,9 +8,9 @@ ghost use Rattle.c_typed.specs.declared.types.ExprType.{ExprType};
 ghost use Rattle.c_typed.specs.declared.expr.Form.TheOpen.{Form-F};
 ghost use Rattle.c_typed.specs.Exprs.{made};
 ghost use Rattle.c_typed.specs.Faults as faults;
-ghost use Rattle.c_types.specs.Outlines.{means_malloc};
-ghost use Rattle.c_types.specs.ExprWalk as walk;
-ghost use Rattle.c_types.specs.Steps.{Finds, kept};
+ghost use Rattle.c_types.specs.tools.Outlines.{means_malloc};
+ghost use Rattle.c_types.specs.tools.ExprWalk as walk;
+ghost use Rattle.c_types.specs.tools.Steps.{Finds, kept};
 
 use crate::known::Known;
 use crate::outline::{Outline, Spelling};

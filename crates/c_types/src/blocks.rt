@@ -1,8 +1,8 @@
 //! Blocks, and the statements that hold statements (C99 6.8, and `par`).
 
 ghost use Rattle.std.specs.Prelude.{◌≡◌};
-ghost use Rattle.c_types.specs.Steps.{Leaves};
-ghost use Rattle.c_types.specs.StmtWalk as walk;
+ghost use Rattle.c_types.specs.tools.Steps.{Leaves};
+ghost use Rattle.c_types.specs.tools.StmtWalk as walk;
 
 use crate::decls::local_decl;
 use crate::known::{Around, Known};

@@ -4,9 +4,9 @@ ghost use Rattle.std.specs.Prelude.{◌≡◌, Err};
 ghost use Rattle.c_typed.specs.declared.expr.Form.TheOpen.{Form-F};
 ghost use Rattle.c_typed.specs.Faults as faults;
 ghost use Rattle.c_typed.specs.Exprs as defined;
-ghost use Rattle.c_types.specs.Tables.{looked};
-ghost use Rattle.c_types.specs.ExprWalk as walk;
-ghost use Rattle.c_types.specs.Steps.{Finds, kept};
+ghost use Rattle.c_types.specs.tools.Tables.{looked};
+ghost use Rattle.c_types.specs.tools.ExprWalk as walk;
+ghost use Rattle.c_types.specs.tools.Steps.{Finds, kept};
 
 use crate::held::refused;
 use crate::outline::{Outline, Signature};

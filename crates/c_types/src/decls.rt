@@ -2,10 +2,10 @@
 
 ghost use Rattle.std.specs.Prelude.{◌≡◌, Ok, map, nat_abs};
 ghost use Rattle.c_typed.specs.Decls as defined;
-ghost use Rattle.c_types.specs.Outlines as outlines;
-ghost use Rattle.c_types.specs.DeclWalk as walk;
-ghost use Rattle.c_types.specs.Steps.{Found, Finds, Leaves};
-ghost use Rattle.c_types.specs.ExprWalk.{expr_walk, value};
+ghost use Rattle.c_types.specs.tools.Outlines as outlines;
+ghost use Rattle.c_types.specs.tools.DeclWalk as walk;
+ghost use Rattle.c_types.specs.tools.Steps.{Found, Finds, Leaves};
+ghost use Rattle.c_types.specs.tools.ExprWalk.{expr_walk, value};
 ghost use Rattle.c_typed.specs.declared.expr.Expr.{Expr};
 
 use crate::exprs;

@@ -1,8 +1,8 @@
 //! Expressions of the source, form by form.
 
 ghost use Rattle.std.specs.Prelude.{[], ◌∷◌, map};
-ghost use Rattle.c_types.specs.Steps.{Finds};
-ghost use Rattle.c_types.specs.ExprWalk.{expr_walk, value, place, unary_walk, field_walk, arrow_walk, typed_cast_walk, count_first, type_first, call_walk, arguments, allocation};
+ghost use Rattle.c_types.specs.tools.Steps.{Finds};
+ghost use Rattle.c_types.specs.tools.ExprWalk.{expr_walk, value, place, unary_walk, field_walk, arrow_walk, typed_cast_walk, count_first, type_first, call_walk, arguments, allocation};
 
 use crate::known::Known;
 use crate::names::name;

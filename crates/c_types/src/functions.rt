@@ -2,9 +2,9 @@
 
 ghost use Rattle.std.specs.Prelude.{◌≡◌, Ok};
 ghost use Rattle.c_typed.specs.Programs as programs;
-ghost use Rattle.c_types.specs.Steps.{Finds, Leaves};
-ghost use Rattle.c_types.specs.ProgramSteps as steps;
-ghost use Rattle.c_types.specs.ProgramWalk as walk;
+ghost use Rattle.c_types.specs.tools.Steps.{Finds, Leaves};
+ghost use Rattle.c_types.specs.tools.ProgramSteps as steps;
+ghost use Rattle.c_types.specs.tools.ProgramWalk as walk;
 
 use crate::blocks::block_items;
 use crate::known::{Around, Frame, Known};

@@ -1,7 +1,7 @@
 //! Lists of what some of the parts in turn give.
 
 ghost use Rattle.std.specs.Prelude.{◌++◌, Ok};
-ghost use Rattle.c_types.specs.Steps.{Leaves, if_some};
+ghost use Rattle.c_types.specs.tools.Steps.{Leaves, if_some};
 
 use c_typed::TypeFault;
 use sqlite_items::Items;

@@ -4,10 +4,10 @@ ghost use Rattle.std.specs.Prelude.{◌≡◌, Ok};
 ghost use Rattle.c_ast.specs.declared.expr.Form.{out-Form};
 ghost use Rattle.c_ast.specs.declared.expr.Form.TheOpen.{Form-F as Source};
 ghost use Rattle.c_typed.specs.Programs as programs;
-ghost use Rattle.c_types.specs.Negatable.{NotNegative, Negatable, NegatableValue, NegatableItems};
-ghost use Rattle.c_types.specs.Steps.{Finds, Leaves};
-ghost use Rattle.c_types.specs.ProgramSteps as steps;
-ghost use Rattle.c_types.specs.ProgramWalk as walk;
+ghost use Rattle.c_types.specs.tools.Negatable.{NotNegative, Negatable, NegatableValue, NegatableItems};
+ghost use Rattle.c_types.specs.tools.Steps.{Finds, Leaves};
+ghost use Rattle.c_types.specs.tools.ProgramSteps as steps;
+ghost use Rattle.c_types.specs.tools.ProgramWalk as walk;
 
 use crate::decls::{by_value, declarator_rule, has_items};
 use crate::known::Known;

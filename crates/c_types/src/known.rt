@@ -1,10 +1,10 @@
 //! What is known at a place of the text.
 
 ghost use Rattle.std.specs.Prelude.{◌≡◌, Ok};
-ghost use Rattle.c_types.specs.Steps.{Finds, Leaves};
-ghost use Rattle.c_types.specs.KnownSteps as steps;
-ghost use Rattle.c_types.specs.ProgramSteps.{frame_of, nothing_declared, nothing_known};
-ghost use Rattle.c_types.specs.StmtWalk.{in_loop};
+ghost use Rattle.c_types.specs.tools.Steps.{Finds, Leaves};
+ghost use Rattle.c_types.specs.tools.KnownSteps as steps;
+ghost use Rattle.c_types.specs.tools.ProgramSteps.{frame_of, nothing_declared, nothing_known};
+ghost use Rattle.c_types.specs.tools.StmtWalk.{in_loop};
 
 use crate::outline::Outline;
 use crate::scopes::{Home, Scopes};

@@ -3,8 +3,8 @@
 ghost use Rattle.std.specs.Prelude.{◌≡◌};
 ghost use Rattle.c_typed.specs.declared.expr.Form.TheOpen.{Form-F};
 ghost use Rattle.c_typed.specs.Exprs as defined;
-ghost use Rattle.c_types.specs.ExprWalk as walk;
-ghost use Rattle.c_types.specs.Steps.{Finds};
+ghost use Rattle.c_types.specs.tools.ExprWalk as walk;
+ghost use Rattle.c_types.specs.tools.Steps.{Finds};
 
 use crate::held::refused;
 use crate::nodes;

@@ -2,9 +2,9 @@
 
 ghost use Rattle.std.specs.Prelude.{◌≡◌};
 ghost use Rattle.std.specs.Option.{option_copied};
-ghost use Rattle.c_types.specs.Steps.{Finds};
-ghost use Rattle.c_types.specs.Outlines as outlines;
-ghost use Rattle.c_types.specs.ExprWalk.{name_walk};
+ghost use Rattle.c_types.specs.tools.Steps.{Finds};
+ghost use Rattle.c_types.specs.tools.Outlines as outlines;
+ghost use Rattle.c_types.specs.tools.ExprWalk.{name_walk};
 
 use crate::known::Known;
 use crate::nodes;

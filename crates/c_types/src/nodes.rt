@@ -4,7 +4,7 @@ ghost use Rattle.std.specs.Prelude.{◌≡◌, IfOk};
 ghost use Rattle.c_typed.specs.declared.types.ExprType.{ExprType};
 ghost use Rattle.c_typed.specs.declared.expr.Form.TheOpen.{Form-F};
 ghost use Rattle.c_typed.specs.Exprs.{made};
-ghost use Rattle.c_types.specs.ExprWalk.{variable_node};
+ghost use Rattle.c_types.specs.tools.ExprWalk.{variable_node};
 
 use crate::scopes::{Binding, Home};
 use c_ast::BinaryOp;

@@ -1,8 +1,8 @@
 //! Numbers of structs and functions, in the order of the text.
 
 ghost use Rattle.std.specs.Prelude.{◌≡◌, Ok};
-ghost use Rattle.c_types.specs.Steps.{Finds, Leaves};
-ghost use Rattle.c_types.specs.OutlineWalk as walk;
+ghost use Rattle.c_types.specs.tools.Steps.{Finds, Leaves};
+ghost use Rattle.c_types.specs.tools.OutlineWalk as walk;
 
 use crate::table::Table;
 use crate::tags::number;

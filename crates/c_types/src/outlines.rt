@@ -1,8 +1,8 @@
 //! The outline of a text.
 
 ghost use Rattle.std.specs.Prelude.{◌≡◌, Ok, map};
-ghost use Rattle.c_types.specs.Steps.{Finds};
-ghost use Rattle.c_types.specs.OutlineWalk as walk;
+ghost use Rattle.c_types.specs.tools.Steps.{Finds};
+ghost use Rattle.c_types.specs.tools.OutlineWalk as walk;
 
 use crate::numbering::{Numbering, functions, tags};
 use crate::outline::{Outline, Spelling};

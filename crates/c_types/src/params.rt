@@ -2,8 +2,8 @@
 
 ghost use Rattle.std.specs.Prelude.{◌≡◌};
 ghost use Rattle.c_typed.specs.Decls as defined;
-ghost use Rattle.c_types.specs.DeclWalk as walk;
-ghost use Rattle.c_types.specs.Steps.{Finds, Leaves};
+ghost use Rattle.c_types.specs.tools.DeclWalk as walk;
+ghost use Rattle.c_types.specs.tools.Steps.{Finds, Leaves};
 
 use crate::known::Known;
 use crate::outline::Outline;

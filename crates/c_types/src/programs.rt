@@ -4,9 +4,9 @@ ghost use Rattle.std.specs.Prelude.{◌≡◌, Ok, map, length};
 ghost use Rattle.std.specs.List.{All};
 ghost use Rattle.c_ast.specs.Ast.{IsWritten};
 ghost use Rattle.c_ast.specs.Leaves.{leaves_of};
-ghost use Rattle.c_types.specs.Negatable.{NegatableStarts};
-ghost use Rattle.c_types.specs.Steps.{Finds, Leaves};
-ghost use Rattle.c_types.specs.ProgramWalk as walk;
+ghost use Rattle.c_types.specs.tools.Negatable.{NegatableStarts};
+ghost use Rattle.c_types.specs.tools.Steps.{Finds, Leaves};
+ghost use Rattle.c_types.specs.tools.ProgramWalk as walk;
 
 use crate::functions::function;
 use crate::gather::push_some;

@@ -3,10 +3,10 @@
 ghost use Rattle.std.specs.Prelude.{◌≡◌, Ok, map};
 ghost use Rattle.std.specs.Option.{option_copied};
 ghost use Rattle.c_typed.specs.Programs as programs;
-ghost use Rattle.c_types.specs.Steps.{Finds, Leaves};
-ghost use Rattle.c_types.specs.DeclWalk as decls;
-ghost use Rattle.c_types.specs.ProgramSteps as steps;
-ghost use Rattle.c_types.specs.ProgramWalk as walk;
+ghost use Rattle.c_types.specs.tools.Steps.{Finds, Leaves};
+ghost use Rattle.c_types.specs.tools.DeclWalk as decls;
+ghost use Rattle.c_types.specs.tools.ProgramSteps as steps;
+ghost use Rattle.c_types.specs.tools.ProgramWalk as walk;
 
 use crate::functions::{fits_main, has_scalar_result, is_int, result_base};
 use crate::known::Known;

@@ -3,8 +3,8 @@
 ghost use Rattle.std.specs.Prelude.{◌≡◌, IfOk};
 ghost use Rattle.c_typed.specs.Faults as faults;
 ghost use Rattle.c_typed.specs.Exprs as defined;
-ghost use Rattle.c_types.specs.ExprWalk.{cast};
-ghost use Rattle.c_types.specs.Steps.{Finds, kept};
+ghost use Rattle.c_types.specs.tools.ExprWalk.{cast};
+ghost use Rattle.c_types.specs.tools.Steps.{Finds, kept};
 
 use crate::held::refused;
 use crate::nodes;

@@ -1,9 +1,9 @@
 //! The variables that are known at a place, by scopes (C99 6.2.1).
 
 ghost use Rattle.std.specs.Prelude.{◌≡◌, Ok};
-ghost use Rattle.c_types.specs.Steps.{Finds, Leaves};
-ghost use Rattle.c_types.specs.KnownSteps as steps;
-ghost use Rattle.c_types.specs.ProgramSteps.{no_scopes};
+ghost use Rattle.c_types.specs.tools.Steps.{Finds, Leaves};
+ghost use Rattle.c_types.specs.tools.KnownSteps as steps;
+ghost use Rattle.c_types.specs.tools.ProgramSteps.{no_scopes};
 
 use crate::table::Table;
 use crate::tags::number;

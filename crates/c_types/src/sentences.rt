@@ -4,7 +4,7 @@ ghost use Rattle.std.specs.Prelude.{◌≡◌, Ok, Some, None};
 ghost use Rattle.c_typed.specs.declared.stmt.Stmt.TheOpen.{Stmt-F};
 ghost use Rattle.c_typed.specs.Faults as faults;
 ghost use Rattle.c_typed.specs.Stmts as defined;
-ghost use Rattle.c_types.specs.Steps.{Finds, kept};
+ghost use Rattle.c_types.specs.tools.Steps.{Finds, kept};
 
 use crate::held::refused;
 use c_ast::AssignOp;

@@ -1,8 +1,8 @@
 //! The structs of a text.
 
 ghost use Rattle.std.specs.Prelude.{◌≡◌, ◌++◌, Ok, map};
-ghost use Rattle.c_types.specs.Steps.{Finds, Leaves};
-ghost use Rattle.c_types.specs.OutlineWalk as walk;
+ghost use Rattle.c_types.specs.tools.Steps.{Finds, Leaves};
+ghost use Rattle.c_types.specs.tools.OutlineWalk as walk;
 
 use crate::outline::{Member, Outline, Shape};
 use crate::words::total;

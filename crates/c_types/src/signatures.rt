@@ -2,10 +2,10 @@
 
 ghost use Rattle.std.specs.Prelude.{◌≡◌, Ok, map};
 ghost use Rattle.c_typed.specs.Types as types;
-ghost use Rattle.c_types.specs.Steps.{Finds};
-ghost use Rattle.c_types.specs.Outlines as outlines;
-ghost use Rattle.c_types.specs.DeclWalk as decls;
-ghost use Rattle.c_types.specs.OutlineWalk as walk;
+ghost use Rattle.c_types.specs.tools.Steps.{Finds};
+ghost use Rattle.c_types.specs.tools.Outlines as outlines;
+ghost use Rattle.c_types.specs.tools.DeclWalk as decls;
+ghost use Rattle.c_types.specs.tools.OutlineWalk as walk;
 
 use crate::gather::push_some;
 use crate::outline::{Outline, Signature};

@@ -3,8 +3,8 @@
 ghost use Rattle.std.specs.Prelude.{◌≡◌};
 ghost use Rattle.c_typed.specs.declared.stmt.Stmt.TheOpen.{Stmt-F};
 ghost use Rattle.c_typed.specs.Stmts as defined;
-ghost use Rattle.c_types.specs.Steps.{Finds, Leaves};
-ghost use Rattle.c_types.specs.StmtWalk as walk;
+ghost use Rattle.c_types.specs.tools.Steps.{Finds, Leaves};
+ghost use Rattle.c_types.specs.tools.StmtWalk as walk;
 
 use crate::decls::local_decl;
 use crate::held::refused;

@@ -2,9 +2,9 @@
 
 ghost use Rattle.std.specs.Prelude.{◌≡◌, Ok};
 ghost use Rattle.c_typed.specs.Decls as defined;
-ghost use Rattle.c_types.specs.Steps.{Leaves};
-ghost use Rattle.c_types.specs.ProgramSteps as steps;
-ghost use Rattle.c_types.specs.ProgramWalk as walk;
+ghost use Rattle.c_types.specs.tools.Steps.{Leaves};
+ghost use Rattle.c_types.specs.tools.ProgramSteps as steps;
+ghost use Rattle.c_types.specs.tools.ProgramWalk as walk;
 
 use crate::decls::{declarator_rule, has_items};
 use crate::known::Known;

@@ -1,7 +1,7 @@
 //! Numbers for some of the names.
 
 ghost use Rattle.std.specs.Prelude.{◌≡◌, [], OnOk, is_some};
-ghost use Rattle.c_types.specs.Tables.{looked, put};
+ghost use Rattle.c_types.specs.tools.Tables.{looked, put};
 
 use sqlite_items::Items;
 use std::alloc::{AllocError, Global};

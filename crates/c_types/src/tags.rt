@@ -1,8 +1,8 @@
 //! What a declaration and a type name begin with.
 
 ghost use Rattle.std.specs.Prelude.{◌≡◌, nat_eq, Ok};
-ghost use Rattle.c_types.specs.Steps.{Finds};
-ghost use Rattle.c_types.specs.Outlines as outlines;
+ghost use Rattle.c_types.specs.tools.Steps.{Finds};
+ghost use Rattle.c_types.specs.tools.Outlines as outlines;
 
 use crate::known::Known;
 use crate::outline::Outline;

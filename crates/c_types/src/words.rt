@@ -1,7 +1,7 @@
 //! Words of types, counted up to one past the limit of a type.
 
 ghost use Rattle.std.specs.Prelude.{◌≡◌, ◌+◌, ◌*◌};
-ghost use Rattle.c_types.specs.Outlines as outlines;
+ghost use Rattle.c_types.specs.tools.Outlines as outlines;
 
 use crate::outline::Outline;
 use c_typed::{BaseType, ObjectType};

@@ -4,7 +4,7 @@ use Rattle.dfi_base.specs.declared.memory.Memory.{Memory}
 use Rattle.dfi_io.specs.Files.{Files}
 use Rattle.dfi_top.specs.Loads.{Load, AreLoads}
 use Rattle.dfi_top.specs.Reply.{Said}
-use Rattle.dfi_top.specs.Stages.{Goes}
+use Rattle.dfi_top.specs.tools.Stages.{Goes}
 use Rattle.dfi_top.proofs.ManyLoads.{more}
 
 -- a stage behind one load

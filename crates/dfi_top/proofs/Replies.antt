@@ -17,7 +17,7 @@ use Rattle.dfi_top.specs.declared.stages.Replay.{Replay}
 use Rattle.dfi_top.specs.Course.{MayLoad, MayLoadFile, MayLoadInput, MayLoadNames}
 use Rattle.dfi_top.specs.Loads.{Loaded, AreLoads}
 use Rattle.dfi_top.specs.Reply.{Says, NamesGave, RepliesToNumbers, InputGave, RepliesToModule, FileGave, RepliesToReplay, RepliesToJob, said_by}
-use Rattle.dfi_top.specs.Stages.{Goes}
+use Rattle.dfi_top.specs.tools.Stages.{Goes}
 use Rattle.dfi_top.specs.Texts.{input_text, usage_text}
 use Rattle.dfi_top.specs.TopCall.{RepliesToWords}
 use Rattle.dfi_top.proofs.ManyLoads.{no_load}

@@ -3,5 +3,5 @@ pub mod Loads
 pub mod Reply
 pub mod Course
 pub mod Checked
-pub mod Stages
 pub mod TopCall
+pub mod tools

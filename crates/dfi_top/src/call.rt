@@ -2,7 +2,7 @@ ghost use Rattle.std.specs.Prelude.{◌≡◌, ◌<◌, map, string_bytes};
 ghost use Rattle.dfi_words.specs.Reads.{Reads};
 ghost use Rattle.dfi_top.specs.Course.{MayLoad};
 ghost use Rattle.dfi_top.specs.Reply.{RepliesToJob, said_by};
-ghost use Rattle.dfi_top.specs.Stages.{Goes};
+ghost use Rattle.dfi_top.specs.tools.Stages.{Goes};
 ghost use Rattle.dfi_top.specs.TopCall.{HandsOver, RepliesToWords, TopCall};
 
 use crate::refusals::{refuse_words, write_program};

@@ -8,7 +8,7 @@ ghost use Rattle.dfi_top.specs.Checked.{AllChecked};
 ghost use Rattle.dfi_top.specs.Course.{MayLoadFile, MayLoadInput, MayLoadNames};
 ghost use Rattle.dfi_top.specs.Loads.{gave, AreLoads};
 ghost use Rattle.dfi_top.specs.Reply.{file_limit, FileGave, InputGave, list_limit, NamesGave, RepliesToModule, RepliesToNumbers, RepliesToReplay, said_by};
-ghost use Rattle.dfi_top.specs.Stages.{Goes};
+ghost use Rattle.dfi_top.specs.tools.Stages.{Goes};
 
 use crate::refusals::{refuse_input, refuse_load, refuse_source};
 use crate::reply::Reply;

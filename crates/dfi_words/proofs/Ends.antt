@@ -5,7 +5,7 @@ use Rattle.std.proofs.lemmas.List.{append_assoc, append-nil}
 use Rattle.clap.specs.Walk.{Row, Text, Held, Walk, Waiting, positional, all_of, has_row, settled, used, walked, without}
 use Rattle.clap.specs.Kinds.{Kinds}
 use Rattle.clap.specs.Faults.{settle_fault, use_fault, walk_fault}
-use Rattle.dfi_words.specs.Found.{plain_id}
+use Rattle.dfi_words.specs.tools.Found.{plain_id}
 use Rattle.dfi_words.specs.Options.{IsOneOf, value_of}
 use Rattle.dfi_words.specs.Split.{Options}
 use Rattle.dfi_words.proofs.Rows.{same, equal, row_is_found, others_without, others_with, added_to, still_missing}

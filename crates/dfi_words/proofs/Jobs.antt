@@ -9,8 +9,8 @@ use Rattle.std.proofs.lemmas.Slice.Eq.{bytes_eq-Decides}
 use Rattle.clap.specs.Words.{all_of, first_of, found_of, rows_of}
 use Rattle.clap.specs.declared.parser.matches.ArgMatches.{ArgMatches}
 use Rattle.dfi_words.specs.Answers.{AnswersTo, Means}
-use Rattle.dfi_words.specs.Found.{FoundBy, plain_id}
-use Rattle.dfi_words.specs.Jobs.{file_of, one_file_of, replay_of}
+use Rattle.dfi_words.specs.tools.Found.{FoundBy, plain_id}
+use Rattle.dfi_words.specs.tools.Jobs.{file_of, one_file_of, replay_of}
 use Rattle.dfi_words.specs.Number.{IsNumberIn, Range}
 use Rattle.dfi_words.specs.Options.{AreOptionsOf, GivesNumber, IsOneOf, Setting, value_of}
 use Rattle.dfi_words.specs.Split.{IsPlain, Options, Split, Text}

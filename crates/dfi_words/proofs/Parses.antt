@@ -14,7 +14,7 @@ use Rattle.clap.proofs.FaultLemmas.{leaf_fault}
 use Rattle.clap.specs.declared.parser.matches.ArgMatches.{ArgMatches}
 use Rattle.clap.specs.declared.error.kind.ErrorKind.{ErrorKind}
 use Rattle.clap.specs.declared.error.kind.ErrorKind.TheVariants as kind
-use Rattle.dfi_words.specs.Found.{AreNames, FoundBy, IsFound, fault_of_kind, line_app, option_arg, plain_id}
+use Rattle.dfi_words.specs.tools.Found.{AreNames, FoundBy, IsFound, fault_of_kind, line_app, option_arg, plain_id}
 use Rattle.dfi_words.specs.Options.{AreOptionsOf, value_of}
 use Rattle.dfi_words.specs.Reads.{replay_options, run_options}
 use Rattle.dfi_words.specs.Split.{Options, Split}

@@ -5,7 +5,7 @@ use Rattle.clap.specs.Walk.{Rule, Text, arg_by_id, arg_by_long, arg_by_short}
 use Rattle.clap.specs.Simple.{Shape, new_rule, new_shape}
 use Rattle.clap.specs.declared.builder.action.ArgAction.TheVariants.{Set, Append}
 use Rattle.clap.specs.declared.builder.value_parser.ValueParser.TheVariants as vp
-use Rattle.dfi_words.specs.Found.{plain_id}
+use Rattle.dfi_words.specs.tools.Found.{plain_id}
 use Rattle.dfi_words.specs.Options.{IsOneOf}
 use Rattle.dfi_words.proofs.Rows.{same, equal}
 

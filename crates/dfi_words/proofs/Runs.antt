@@ -4,8 +4,8 @@ use Rattle.std.specs.List.{AllByRecursion as Each}
 use Rattle.clap.specs.Words.{first_of, found_of, rows_of}
 use Rattle.clap.specs.declared.parser.matches.ArgMatches.{ArgMatches}
 use Rattle.dfi_words.specs.Answers.{AnswersTo, Means}
-use Rattle.dfi_words.specs.Found.{FoundBy, plain_id}
-use Rattle.dfi_words.specs.Jobs.{run_of}
+use Rattle.dfi_words.specs.tools.Found.{FoundBy, plain_id}
+use Rattle.dfi_words.specs.tools.Jobs.{run_of}
 use Rattle.dfi_words.specs.Number.{IsNumberIn}
 use Rattle.dfi_words.specs.Options.{AreOptionsOf, GivesNumber, value_of}
 use Rattle.dfi_words.specs.Split.{Options, Split, Text}

@@ -5,7 +5,7 @@ use Rattle.clap.specs.Walk.{Text, Held, Walk, Waiting, idle, positional, option,
 use Rattle.clap.specs.Kinds.{Kinds, or_else}
 use Rattle.clap.specs.Faults.{react_fault, settle_fault, turn_fault}
 use Rattle.dfi_words.specs.Options.{IsOneOf}
-use Rattle.dfi_words.specs.Found.{plain_id}
+use Rattle.dfi_words.specs.tools.Found.{plain_id}
 use Rattle.dfi_words.proofs.Forms.{LooksLong, LooksPlain}
 use Rattle.dfi_words.proofs.Rows.{same}
 use Rattle.dfi_words.proofs.Rules.{plain_rule, option_rule, rules, shape, AreApart, long_known, option_by_id}

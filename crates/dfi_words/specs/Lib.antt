@@ -1,7 +1,6 @@
 pub mod Answers
-pub mod Found
-pub mod Jobs
 pub mod Number
 pub mod Options
 pub mod Reads
 pub mod Split
+pub mod tools

@@ -1,8 +1,8 @@
 ghost use Rattle.std.specs.Prelude.{◌≡◌, ◌≢◌, ℕ, List, Option, [], ◌∷◌, map, drop, codes, string_bytes, unwrap_or};
 ghost use Rattle.clap.specs.Words.{all_of, first_of, found_of, rows_of};
 ghost use Rattle.dfi_words.specs.Answers.{AnswersTo, Means};
-ghost use Rattle.dfi_words.specs.Found.{plain_id};
-ghost use Rattle.dfi_words.specs.Jobs.{file_of, one_file_of, replay_of, run_of, words_in};
+ghost use Rattle.dfi_words.specs.tools.Found.{plain_id};
+ghost use Rattle.dfi_words.specs.tools.Jobs.{file_of, one_file_of, replay_of, run_of, words_in};
 ghost use Rattle.dfi_words.specs.Number.{IsNumberIn, up_to};
 ghost use Rattle.dfi_words.specs.Options.{GivesNumber};
 ghost use Rattle.dfi_words.specs.Reads.{Asks, IsLine, IsRun, budget, sources, stripes, workers};

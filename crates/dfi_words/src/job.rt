@@ -1,7 +1,7 @@
 ghost use Rattle.std.specs.Prelude.{◌≡◌};
 ghost use Rattle.clap.specs.Words.{kind_of};
 ghost use Rattle.dfi_words.specs.declared.job.WordFault.TheVariants.{Memory};
-ghost use Rattle.dfi_words.specs.Found.{fault_of_kind};
+ghost use Rattle.dfi_words.specs.tools.Found.{fault_of_kind};
 
 use clap::error::ErrorKind;
 use dfi_base::Text;

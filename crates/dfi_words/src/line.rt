@@ -1,7 +1,7 @@
 ghost use Rattle.std.specs.Prelude.{◌≡◌, ℕ, List, [], codes, map, string_bytes, unwrap_or};
 ghost use Rattle.clap.specs.Words.{all_of, app_of, found_of, rows_of, with_rule};
-ghost use Rattle.dfi_words.specs.Found.{AreNames, FoundBy, GivesCommand, line_app, option_arg, plain_id};
-ghost use Rattle.dfi_words.specs.Jobs.{words_in};
+ghost use Rattle.dfi_words.specs.tools.Found.{AreNames, FoundBy, GivesCommand, line_app, option_arg, plain_id};
+ghost use Rattle.dfi_words.specs.tools.Jobs.{words_in};
 ghost use Rattle.dfi_words.specs.Reads.{replay_options, run_options};
 ghost use Rattle.dfi_words.specs.Split.{Text};
 

@@ -4,7 +4,7 @@ use Rattle.std.specs.Prelude.{IsTrue}
 use Rattle.std.proofs.lemmas.Bool.{and_from, eqb-true, or_cases, lt-ltb, ne_eqb, or_from, false≢true}
 use Rattle.tac_ir.specs.Answers.{has}
 use Rattle.tac_ir.specs.Module.{is_chain}
-use Rattle.first_module.specs.Readers.{Ascends}
+use Rattle.first_module.specs.tools.Readers.{Ascends}
 
 pub ascends-wider : (a b high : ℕ) (xs : List ℕ) → a ≤ b → Ascends b high xs → Ascends a high xs
 ascends-wider a b high [] le h = tt

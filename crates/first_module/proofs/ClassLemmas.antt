@@ -12,7 +12,7 @@ use Rattle.tac_ir.specs.Answers.{class_of, has, set_of}
 use Rattle.tac_ir.specs.Module.{Module}
 use Rattle.first_module.specs.ClassesOf.{classes_of, readers_from, readers_of, same_list}
 use Rattle.first_module.specs.EachOnce.{each_once, place_of}
-use Rattle.first_module.specs.Readers.{Ascends}
+use Rattle.first_module.specs.tools.Readers.{Ascends}
 use Rattle.first_module.proofs.AscendLemmas.{has-within}
 use Rattle.first_module.proofs.NumberLemmas.{same_itself}
 use Rattle.first_module.proofs.OnceLemmas.{each_once-has, same_place}

@@ -7,7 +7,7 @@ use Rattle.tac_ir.specs.declared.code.Fun.{Fun}
 use Rattle.tac_ir.specs.declared.code.Instr.{Instr}
 use Rattle.tac_ir.specs.declared.code.Lined.{Lined}
 use Rattle.tac_ir.specs.Numbers.{numbers_in, numbers_in_funs}
-use Rattle.first_module.specs.Counted.{counted}
+use Rattle.first_module.specs.tools.Counted.{counted}
 
 counted-first : (o : Option ℕ) (rest : List ℕ) → length (elim o as (λ o. List ℕ) [ Some n ↦ n ∷ rest | None ↦ rest ]) ≡ counted o + length rest
 counted-first None rest = omega arith

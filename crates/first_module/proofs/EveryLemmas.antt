@@ -6,7 +6,7 @@ use Rattle.std.proofs.lemmas.Bool.{cases_eq, eq-eqb, or_left, or_right}
 use Rattle.tac_ir.specs.Answers.{has}
 use Rattle.first_module.specs.ClassesOf.{classes_of, readers_from, readers_of, same_list}
 use Rattle.first_module.specs.EachOnce.{each_once, place_of, with_member}
-use Rattle.first_module.specs.Readers.{Ascends}
+use Rattle.first_module.specs.tools.Readers.{Ascends}
 use Rattle.first_module.proofs.NumberLemmas.{same_itself}
 
 pub ascends-range : (a n high : ℕ) → a + n ≡ high → Ascends a high (range_with_len a n)

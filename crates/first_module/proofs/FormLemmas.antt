@@ -22,10 +22,10 @@ use Rattle.word_table.specs.Tables.{CanRun}
 use Rattle.first_module.specs.ClassesOf.{classes_of, readers_of, same_list}
 use Rattle.first_module.specs.EachOnce.{each_once, place_of}
 use Rattle.first_module.specs.ModuleOf.{module_of}
-use Rattle.first_module.specs.Readers.{Ascends}
+use Rattle.first_module.specs.tools.Readers.{Ascends}
 use Rattle.first_module.specs.SetsOf.{all_sets, set_by, sets_behind, sets_of, straight_sets}
 use Rattle.first_module.specs.StraightLine.{global_at, is_straight}
-use Rattle.first_module.specs.Trail.{Below, NamesWithin}
+use Rattle.first_module.specs.tools.Trail.{Below, NamesWithin}
 use Rattle.first_module.proofs.AscendLemmas.{chain-from_ascends}
 use Rattle.first_module.proofs.ClassLemmas.{apart_at}
 use Rattle.first_module.proofs.CountLemmas.{count-le}

@@ -6,12 +6,12 @@ use Rattle.std.proofs.lemmas.Bool.{false≢true}
 use Rattle.tac_ir.specs.declared.code.Instr.{Instr}
 use Rattle.tac_ir.specs.declared.code.Lined.{Lined}
 use Rattle.tac_ir.specs.Numbers.{new_def, numbers_in}
-use Rattle.first_module.specs.Counted.{counted}
-use Rattle.first_module.specs.Readers.{Ascends}
+use Rattle.first_module.specs.tools.Counted.{counted}
+use Rattle.first_module.specs.tools.Readers.{Ascends}
 use Rattle.first_module.specs.SetsOf.{definitions_of, is_global, or_none, set_by, sets_behind, target_of}
 use Rattle.first_module.specs.StraightLine.{global_at, global_behind, is_plain, is_straight_behind}
-use Rattle.first_module.specs.Steps.{last_of}
-use Rattle.first_module.specs.Trail.{Below, NamesWithin}
+use Rattle.first_module.specs.tools.Steps.{last_of}
+use Rattle.first_module.specs.tools.Trail.{Below, NamesWithin}
 use Rattle.first_module.proofs.AscendLemmas.{ascends-higher, ascends-wider}
 use Rattle.first_module.proofs.StepLemmas.{below-behind, definitions-written, last-definition, written}
 

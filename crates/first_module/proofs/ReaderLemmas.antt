@@ -6,7 +6,7 @@ use Rattle.std.proofs.lemmas.List.{append-nil, ext_get_or, get_or-replicate, get
 use Rattle.std.proofs.lemmas.List.FromFn.{get_or-map-range_with_len, length-map-range_with_len}
 use Rattle.tac_ir.specs.Answers.{has}
 use Rattle.first_module.specs.ClassesOf.{readers_from, readers_of}
-use Rattle.first_module.specs.Readers.{AddsReader, Ascends, HasReaders}
+use Rattle.first_module.specs.tools.Readers.{AddsReader, Ascends, HasReaders}
 use Rattle.first_module.proofs.AscendLemmas.{ascends-at, has-append, has-take}
 
 begun : (b : Bool) (r : ℕ) (xs ys zs : List ℕ) → xs ≡ ys ++ zs

@@ -8,8 +8,8 @@ use Rattle.tac_ir.specs.declared.code.Lined.{Lined}
 use Rattle.first_module.specs.declared.steps.Step.{Step}
 use Rattle.first_module.specs.StraightLine.{behind_by, global_at, global_behind, is_plain}
 use Rattle.first_module.specs.SetsOf.{definitions_of, is_global, last_definition_of, or_none, set_by, target_of}
-use Rattle.first_module.specs.Steps.{IsStepWithin, by_global, definitions_after, last_of, moved_by, sets_in, step_of}
-use Rattle.first_module.specs.Trail.{Below, NamesWithin}
+use Rattle.first_module.specs.tools.Steps.{IsStepWithin, by_global, definitions_after, last_of, moved_by, sets_in, step_of}
+use Rattle.first_module.specs.tools.Trail.{Below, NamesWithin}
 
 -- Which instructions have a step.
 

@@ -10,8 +10,8 @@ use Rattle.tac_ir.specs.declared.code.Lined.{Lined}
 use Rattle.first_module.specs.declared.steps.Step.{Step}
 use Rattle.first_module.specs.StraightLine.{global_behind, is_plain, is_straight_behind}
 use Rattle.first_module.specs.SetsOf.{definitions_of, set_by, sets_behind}
-use Rattle.first_module.specs.Steps.{IsStepWithin, definitions_after, last_of, moved_by, sets_in, step_of}
-use Rattle.first_module.specs.Trail.{HasTrail, Moves, NamesWithin, Sets}
+use Rattle.first_module.specs.tools.Steps.{IsStepWithin, definitions_after, last_of, moved_by, sets_in, step_of}
+use Rattle.first_module.specs.tools.Trail.{HasTrail, Moves, NamesWithin, Sets}
 use Rattle.first_module.proofs.StepLemmas.{behind-moved, below-behind, definitions-written, length-after, moved, plain-step, set-step, sets_known, step-within, target-step, write_known, written, written-list}
 
 -- the last one is what is left behind the others

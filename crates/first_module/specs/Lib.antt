@@ -3,8 +3,5 @@ pub mod ClassesOf
 pub mod StraightLine
 pub mod SetsOf
 pub mod ModuleOf
-pub mod Readers
-pub mod Counted
-pub mod Steps
-pub mod Trail
 pub mod Sample
+pub mod tools

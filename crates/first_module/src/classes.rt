@@ -3,7 +3,7 @@ ghost use Rattle.std.specs.Prelude.{◌≡◌, suc, ◌-◌, ◌<◌, ◌≤◌,
 ghost use Rattle.std.specs.List.{AllByRecursion, range_with_len};
 ghost use Rattle.first_module.specs.ClassesOf.{classes_of, readers_of, same_list};
 ghost use Rattle.first_module.specs.EachOnce.{each_once, place_of};
-ghost use Rattle.first_module.specs.Readers.{AddsReader, Ascends};
+ghost use Rattle.first_module.specs.tools.Readers.{AddsReader, Ascends};
 
 use dfi_base::Memory;
 use indexmap::IndexSet;

@@ -1,7 +1,7 @@
 //! How many definitions and reads the instructions of code make.
 ghost use Rattle.std.specs.Prelude.{◌≡◌, ◌+◌, ◌<◌, ◌^◌, length};
 ghost use Rattle.tac_ir.specs.Numbers.{new_def, new_read, numbers_in, numbers_in_funs};
-ghost use Rattle.first_module.specs.Counted.{counted};
+ghost use Rattle.first_module.specs.tools.Counted.{counted};
 
 use tac_ir::{Fun, Instr, Lined};
 

@@ -1,7 +1,7 @@
 //! What an instruction of a straight line does to globals, and to the pointers in temporaries.
 ghost use Rattle.std.specs.Prelude.{◌≡◌, None, slice_index_or};
 ghost use Rattle.first_module.specs.StraightLine as line;
-ghost use Rattle.first_module.specs.Steps as definition;
+ghost use Rattle.first_module.specs.tools.Steps as definition;
 
 use tac_ir::{Instr, Lined, Place};
 

@@ -4,9 +4,9 @@ ghost use Rattle.std.specs.Prelude.{◌≡◌, ℕ, ◌+◌, ◌<◌, ◌≤◌,
 ghost use Rattle.std.specs.List.{AllByRecursion};
 ghost use Rattle.first_module.specs.StraightLine.{is_straight_behind};
 ghost use Rattle.first_module.specs.SetsOf.{sets_behind};
-ghost use Rattle.first_module.specs.Steps as definition;
-ghost use Rattle.first_module.specs.Steps.{IsStepWithin, definitions_after, last_of, sets_in};
-ghost use Rattle.first_module.specs.Trail.{HasTrail, Moves, NamesWithin, Sets};
+ghost use Rattle.first_module.specs.tools.Steps as definition;
+ghost use Rattle.first_module.specs.tools.Steps.{IsStepWithin, definitions_after, last_of, sets_in};
+ghost use Rattle.first_module.specs.tools.Trail.{HasTrail, Moves, NamesWithin, Sets};
 
 use crate::steps::{Step, moved_by, step_of};
 use dfi_base::Memory;

@@ -11,14 +11,14 @@ use Rattle.tac_thread.specs.declared.want.Want.{Want}
 use Rattle.tac_thread.specs.Doing.{want_of}
 use Rattle.tac_thread.specs.Threads.{running}
 use Rattle.tac_thread.specs.Flat.{flat_meaning}
-use Rattle.flat_path.specs.Asked.{op_of}
-use Rattle.flat_path.specs.Standing.{FlatLife, point_of}
-use Rattle.flat_path.specs.Wants.{next_of}
-use Rattle.flat_path.specs.InPlace.{FlatLives}
-use Rattle.flat_path.specs.Alive.{AreAlive}
-use Rattle.flat_path.proofs.TreeLaws.{next_event}
+use Rattle.path_law.specs.Asked.{op_of}
+use Rattle.path_law.specs.Standing.{FlatLife, point_of}
+use Rattle.path_law.specs.Wants.{next_of}
+use Rattle.path_law.specs.InPlace.{FlatLives}
+use Rattle.path_law.specs.Alive.{AreAlive}
+use Rattle.path_law.proofs.TreeLaws.{next_event}
 use Rattle.flat_core.specs.declared.ask.Asked.{Asked}
-use Rattle.flat_core.specs.Asked.{op_in, asks, asked_of}
+use Rattle.flat_core.specs.tools.Asked.{op_in, asks, asked_of}
 
 -- a life that asks for this
 pub record IsAskedBy (c : Code) (o : Option FlatLife) (a : Asked) : Type 0 where

@@ -19,26 +19,26 @@ use Rattle.tac_ir.specs.Answers.{IsAnswer, depth_of, fork_answer}
 use Rattle.tac_thread.specs.declared.flat.FlatStack.{FlatStack}
 use Rattle.tac_thread.specs.declared.want.Want.{Want}
 use Rattle.tac_thread.specs.declared.want.ReplyOf.{ReplyOf}
-use Rattle.tac_thread.specs.Fetched.{instr_in}
+use Rattle.tac_thread.specs.tools.Fetched.{instr_in}
 use Rattle.tac_thread.specs.Doing.{want_of}
 use Rattle.tac_thread.specs.Flat.{flat_meaning, with_share}
 use Rattle.tac_thread.specs.Threads.{life_in, running, want_of_life, next_in, IsTree, Forks, ForksBy, TakesStacks}
 use Rattle.tac_thread.proofs.Trees.{running_is}
-use Rattle.flat_path.specs.Standing.{FlatLife}
-use Rattle.flat_path.specs.Wants.{room_in}
-use Rattle.flat_path.specs.Fits.{answer_by}
-use Rattle.flat_path.specs.Alive.{AreAlive, AreShares, IsNextTold}
-use Rattle.flat_path.specs.Asked.{Tells}
+use Rattle.path_law.specs.Standing.{FlatLife}
+use Rattle.path_law.specs.Wants.{room_in}
+use Rattle.path_law.specs.Fits.{answer_by}
+use Rattle.path_law.specs.Alive.{AreAlive, AreShares, IsNextTold}
+use Rattle.path_law.specs.Asked.{Tells}
 use Rattle.tac_thread.specs.Answered.{IsReplyTo}
-use Rattle.flat_path.specs.InPlace.{FlatLives}
-use Rattle.flat_path.proofs.Begins.{shared, forking}
-use Rattle.flat_path.proofs.Fitting.{forks_fit}
-use Rattle.flat_path.proofs.Forks.{tree_forked}
+use Rattle.path_law.specs.InPlace.{FlatLives}
+use Rattle.path_law.proofs.Begins.{shared, forking}
+use Rattle.path_law.proofs.Fitting.{forks_fit}
+use Rattle.path_law.proofs.Forks.{tree_forked}
 use Rattle.heap_desk.specs.Laws.{changes_desk}
 use Rattle.word_table.specs.Tables.{CanRun}
 use Rattle.flat_core.specs.declared.ask.Asked.{Asked}
 use Rattle.flat_core.specs.declared.store.Store.{Store}
-use Rattle.flat_core.specs.Asked.{entry_of}
+use Rattle.flat_core.specs.tools.Asked.{entry_of}
 use Rattle.flat_core.specs.Serves.{FlatThreads, Serves, Asks, IsPerformed}
 use Rattle.flat_core.proofs.Asking.{IsAskedBy, asked_by}
 use Rattle.flat_core.proofs.Telling.{wants_fork}

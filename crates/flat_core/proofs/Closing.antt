@@ -17,16 +17,16 @@ use Rattle.tac_ir.specs.CoreRun.{GoesOn, end_by, end_after, IsEnd}
 use Rattle.tac_ir.specs.Words.{int_of}
 use Rattle.tac_ir.specs.CoreRun.{Returns}
 use Rattle.tac_thread.specs.Threads.{life_in}
-use Rattle.flat_path.specs.Standing.{FlatLife}
-use Rattle.flat_path.specs.InPlace.{FlatLives}
-use Rattle.flat_path.specs.Alive.{AreAlive}
-use Rattle.flat_path.specs.Returned.{MainReturned}
-use Rattle.flat_path.proofs.TreeLaws.{same_end, main_returned}
+use Rattle.path_law.specs.Standing.{FlatLife}
+use Rattle.path_law.specs.InPlace.{FlatLives}
+use Rattle.path_law.specs.Alive.{AreAlive}
+use Rattle.path_law.specs.Returned.{MainReturned}
+use Rattle.path_law.proofs.TreeLaws.{same_end, main_returned}
 use Rattle.word_table.specs.Tables.{CanRun}
 use Rattle.flat_core.specs.Serves.{Serves}
 use Rattle.flat_core.specs.Stands.{Core, history_of, StandsBy, IsCoreOf, IsOver}
-use Rattle.flat_core.specs.Over.{is_there}
-use Rattle.flat_core.specs.Ends.{end_of_answer, end_of_last, end_of_done, end_in}
+use Rattle.flat_core.specs.tools.Over.{is_there}
+use Rattle.flat_core.specs.tools.Ends.{end_of_answer, end_of_last, end_of_done, end_in}
 use Rattle.flat_core.proofs.Ending.{newest, last_is, going_with}
 
 -- a value that is there is the one that main returned

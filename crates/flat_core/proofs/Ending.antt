@@ -8,15 +8,15 @@ use Rattle.tac_ir.specs.Module.{Module}
 use Rattle.tac_ir.specs.Path.{stops}
 use Rattle.tac_ir.specs.Threads.{threads_of}
 use Rattle.tac_ir.specs.CoreRun.{GoesOn}
-use Rattle.flat_path.specs.InPlace.{FlatLives}
-use Rattle.flat_path.specs.Alive.{AreAlive}
-use Rattle.flat_path.specs.Standing.{FlatLife}
-use Rattle.flat_path.specs.Returned.{HasReturned}
-use Rattle.flat_path.specs.Returned.HasReturned.{returns, stops as ended_outside}
-use Rattle.flat_path.proofs.TreeLaws.{same_end, main_value_is}
+use Rattle.path_law.specs.InPlace.{FlatLives}
+use Rattle.path_law.specs.Alive.{AreAlive}
+use Rattle.path_law.specs.Standing.{FlatLife}
+use Rattle.path_law.specs.Returned.{HasReturned}
+use Rattle.path_law.specs.Returned.HasReturned.{returns, stops as ended_outside}
+use Rattle.path_law.proofs.TreeLaws.{same_end, main_value_is}
 use Rattle.flat_core.specs.Serves.{Serves}
 use Rattle.flat_core.specs.Stands.{Core, history_of, StandsBy, IsCoreOf, IsOver}
-use Rattle.flat_core.specs.Over.{is_there, is_over_by, is_over}
+use Rattle.flat_core.specs.tools.Over.{is_there, is_over_by, is_over}
 
 -- the newest entry
 abbrev pub newest : List Entry → Option Entry

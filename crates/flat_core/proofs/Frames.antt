@@ -22,21 +22,21 @@ use Rattle.tac_thread.specs.declared.doing.Doing.{Doing}
 use Rattle.tac_thread.specs.declared.want.Want.{Want}
 use Rattle.tac_thread.specs.declared.want.ReplyOf.{ReplyOf}
 use Rattle.tac_thread.specs.Meaning.{Meaning}
-use Rattle.tac_thread.specs.Fetched.{instr_in}
+use Rattle.tac_thread.specs.tools.Fetched.{instr_in}
 use Rattle.tac_thread.specs.Life.{Life, instr_of}
 use Rattle.tac_thread.specs.Doing.{given, tested, leaves, doing, asked, link_write, want_at, want_of}
 use Rattle.tac_thread.specs.Answered.{IsReplyTo}
 use Rattle.tac_thread.specs.Flat.{flat_meaning, with_frame}
 use Rattle.tac_thread.specs.Threads.{life_in, running, Takes, IsFed, IsTree}
-use Rattle.flat_path.specs.Asked.{Tells}
-use Rattle.flat_path.specs.Wants.{room_in}
-use Rattle.flat_path.specs.Fits.{answer_by}
-use Rattle.flat_path.proofs.Replies.{framed}
-use Rattle.flat_path.proofs.Fitting.{calls_fit}
+use Rattle.path_law.specs.Asked.{Tells}
+use Rattle.path_law.specs.Wants.{room_in}
+use Rattle.path_law.specs.Fits.{answer_by}
+use Rattle.path_law.proofs.Replies.{framed}
+use Rattle.path_law.proofs.Fitting.{calls_fit}
 use Rattle.word_table.specs.Tables.{CanRun}
 use Rattle.flat_core.specs.declared.ask.Asked.{Asked}
 use Rattle.flat_core.specs.declared.store.Store.{Store}
-use Rattle.flat_core.specs.Asked.{entry_of}
+use Rattle.flat_core.specs.tools.Asked.{entry_of}
 use Rattle.flat_core.specs.Serves.{FlatThreads, Serves, Asks, IsPerformed}
 use Rattle.heap_desk.specs.Laws.{changes_desk}
 use Rattle.flat_core.proofs.Asking.{IsAskedBy, asked_by}

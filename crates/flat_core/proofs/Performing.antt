@@ -14,13 +14,13 @@ use Rattle.tac_thread.specs.declared.want.ReplyOf.{ReplyOf}
 use Rattle.tac_thread.specs.Answered.{IsReplyTo}
 use Rattle.tac_thread.specs.Flat.{flat_meaning}
 use Rattle.tac_thread.specs.Threads.{life_in, running, want_of_life, Takes, IsFed, IsTree}
-use Rattle.flat_path.specs.Asked.{Tells, op_of}
-use Rattle.flat_path.specs.Wants.{room_in}
-use Rattle.flat_path.specs.InPlace.{FlatLives}
-use Rattle.flat_path.specs.Alive.{AreAlive}
-use Rattle.flat_path.proofs.Grown.{tree_fed}
+use Rattle.path_law.specs.Asked.{Tells, op_of}
+use Rattle.path_law.specs.Wants.{room_in}
+use Rattle.path_law.specs.InPlace.{FlatLives}
+use Rattle.path_law.specs.Alive.{AreAlive}
+use Rattle.path_law.proofs.Grown.{tree_fed}
 use Rattle.flat_core.specs.declared.ask.Asked.{Asked}
-use Rattle.flat_core.specs.Asked.{asked_of, reply_to, entry_of}
+use Rattle.flat_core.specs.tools.Asked.{asked_of, reply_to, entry_of}
 use Rattle.flat_core.proofs.Asking.{IsAskedBy, asked_by}
 use Rattle.flat_core.specs.declared.store.Store.{Store}
 use Rattle.flat_core.specs.Serves.{FlatThreads, Serves, Asks, IsPerformed}

@@ -11,12 +11,12 @@ use Rattle.tac_ir.specs.Module.{Module}
 use Rattle.tac_ir.specs.Threads.{threads_of}
 use Rattle.tac_thread.specs.Threads.{life_in, is_waiting, running, IsRunnable}
 use Rattle.tac_thread.specs.Threads as tree
-use Rattle.flat_path.specs.Standing.{FlatLife}
-use Rattle.flat_path.specs.Alive.{AreAlive}
-use Rattle.flat_path.proofs.TreeLaws.{same_end, same_runnable}
+use Rattle.path_law.specs.Standing.{FlatLife}
+use Rattle.path_law.specs.Alive.{AreAlive}
+use Rattle.path_law.proofs.TreeLaws.{same_end, same_runnable}
 use Rattle.flat_core.specs.Serves.{FlatThreads}
 use Rattle.flat_core.specs.Stands.{Core}
-use Rattle.flat_core.specs.Ends.{IsLeastOf}
+use Rattle.flat_core.specs.tools.Ends.{IsLeastOf}
 use Rattle.flat_core.proofs.Ending.{IsGoing, not_over}
 
 -- one more than the greatest name

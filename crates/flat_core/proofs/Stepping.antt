@@ -11,15 +11,15 @@ use Rattle.tac_ir.specs.Threads.{threads_of}
 use Rattle.tac_ir.specs.Answers.{IsAnswer}
 use Rattle.tac_ir.specs.CoreRun.{Follows, IsHistory}
 use Rattle.tac_thread.specs.Threads.{life_in, running}
-use Rattle.flat_path.specs.Wants.{room_in, next_of}
-use Rattle.flat_path.proofs.TreeLaws.{same_runnable}
-use Rattle.flat_path.proofs.Stopped.{stopped_run}
+use Rattle.path_law.specs.Wants.{room_in, next_of}
+use Rattle.path_law.proofs.TreeLaws.{same_runnable}
+use Rattle.path_law.proofs.Stopped.{stopped_run}
 use Rattle.flat_core.specs.declared.ask.Asked.{Asked}
 use Rattle.flat_core.specs.declared.store.Store.{Store}
-use Rattle.flat_core.specs.Asked.{asked_of, entry_of}
+use Rattle.flat_core.specs.tools.Asked.{asked_of, entry_of}
 use Rattle.flat_core.specs.Serves.{FlatThreads, Serves, Asks, IsPerformed}
 use Rattle.flat_core.specs.Stands.{Core, history_of, StandsBy, IsCoreOf, IsOver, IsStep}
-use Rattle.flat_core.specs.Over.{is_over}
+use Rattle.flat_core.specs.tools.Over.{is_over}
 use Rattle.flat_core.proofs.Asking.{asked_by, asks_something, asked_is_next}
 use Rattle.flat_core.proofs.Ending.{IsGoing, goes_on, not_over}
 

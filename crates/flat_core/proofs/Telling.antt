@@ -17,8 +17,8 @@ use Rattle.tac_thread.specs.declared.want.Want.{Want}
 use Rattle.tac_thread.specs.declared.want.ReplyOf.{ReplyOf}
 use Rattle.tac_thread.specs.Answered.{IsReplyTo}
 use Rattle.tac_thread.specs.Flat.{flat_meaning}
-use Rattle.flat_path.specs.Asked.{op_of, Tells}
-use Rattle.flat_core.specs.Asked.{reply_to}
+use Rattle.path_law.specs.Asked.{op_of, Tells}
+use Rattle.flat_core.specs.tools.Asked.{reply_to}
 use Rattle.flat_core.specs.Store.{is_plain}
 
 -- which answers an event has that goes on

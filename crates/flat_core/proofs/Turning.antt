@@ -12,7 +12,7 @@ use Rattle.tac_ir.specs.Threads.{threads_of}
 use Rattle.tac_ir.specs.CoreRun.{IsHistory, CoreRun, IsEnd, IsByLeast, LeastRun}
 use Rattle.flat_core.specs.declared.fault.StepFault.{StepFault}
 use Rattle.flat_core.specs.Stands.{Core, history_of, IsCoreOf, IsOver, IsStep, Answers}
-use Rattle.flat_core.specs.Ends.{IsLeastOf, end_in}
+use Rattle.flat_core.specs.tools.Ends.{IsLeastOf, end_in}
 use Rattle.flat_core.specs.Runs.{names_of, IsRunAlong, IsRefused, IsRefusedAt, HasGone, refused_as, GoesAlong, IsLeastCore, GoesByLeast}
 use Rattle.word_table.specs.Tables.{CanRun}
 use Rattle.flat_core.proofs.Closing.{end_is, never_cut}

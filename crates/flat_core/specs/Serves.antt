@@ -7,11 +7,11 @@ use Rattle.tac_ir.specs.Answers.{IsAnswer}
 use Rattle.tac_ir.specs.Path.{stops}
 use Rattle.tac_thread.specs.Threads.{Threads, life_in, running}
 use Rattle.tac_thread.specs.declared.flat.FlatStack.{FlatStack}
-use Rattle.flat_path.specs.Wants.{room_in}
-use Rattle.flat_path.specs.Alive.{AreAlive}
+use Rattle.path_law.specs.Wants.{room_in}
+use Rattle.path_law.specs.Alive.{AreAlive}
 use Rattle.flat_core.specs.declared.ask.Asked.{Asked}
 use Rattle.flat_core.specs.declared.store.Store.{Store}
-use Rattle.flat_core.specs.Asked.{asked_of, entry_of}
+use Rattle.flat_core.specs.tools.Asked.{asked_of, entry_of}
 use Rattle.flat_core.specs.Store.{IsStore}
 
 abbrev pub FlatThreads : Type 0

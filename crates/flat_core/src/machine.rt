@@ -6,9 +6,9 @@ ghost use Rattle.tac_ir.specs.GoodForm.{GoodForm};
 ghost use Rattle.tac_thread.specs.Threads.{life_in, running, IsTree, IsSame};
 ghost use Rattle.tac_thread.specs.Flat.{flat_meaning};
 ghost use Rattle.tac_ir.specs.Layout.{stack_from, memory_words};
-ghost use Rattle.flat_path.specs.Begins.{root_stack};
+ghost use Rattle.path_law.specs.Begins.{root_stack};
 ghost use Rattle.word_table.specs.Tables.{CanRun};
-ghost use Rattle.flat_core.specs.Asked.{asked_of};
+ghost use Rattle.flat_core.specs.tools.Asked.{asked_of};
 ghost use Rattle.flat_core.specs.Serves.{Serves, IsServing, Asks, IsPerformed};
 ghost use Rattle.flat_core.specs.Store.{is_plain};
 

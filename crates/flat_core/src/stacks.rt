@@ -1,7 +1,7 @@
 ghost use Rattle.std.specs.Prelude.{◌≡◌, ◌≤◌, ◌<◌, ◌^◌, ◌/◌, nat_le, length, true, IfOk, MatchOption};
 ghost use Rattle.tac_ir.specs.Answers.{depth_of};
-ghost use Rattle.flat_path.specs.Wants.{room_in};
-ghost use Rattle.flat_path.specs.Alive.{AreShares};
+ghost use Rattle.path_law.specs.Wants.{room_in};
+ghost use Rattle.path_law.specs.Alive.{AreShares};
 ghost use Rattle.tac_thread.specs.Flat.{with_share};
 
 use dfi_base::{Memory, Name};

@@ -5,8 +5,8 @@ ghost use Rattle.tac_ir.specs.CoreRun.{end_by};
 ghost use Rattle.tac_ir.specs.Module.{Module};
 ghost use Rattle.tac_thread.specs.Threads.{name_number};
 ghost use Rattle.flat_core.specs.Stands.{IsCore, IsCoreOf, Answers, history_of};
-ghost use Rattle.flat_core.specs.Ends.{IsLeastOf, end_in};
-ghost use Rattle.flat_core.specs.Over.{is_over};
+ghost use Rattle.flat_core.specs.tools.Ends.{IsLeastOf, end_in};
+ghost use Rattle.flat_core.specs.tools.Over.{is_over};
 
 use crate::fault::StepFault;
 use crate::machine::Machine;

@@ -10,7 +10,7 @@ use Rattle.number_lists.specs.declared.scan.Form.{Form}
 use Rattle.number_lists.specs.declared.scan.Number.{Number}
 use Rattle.number_lists.specs.declared.scan.State.{State}
 use Rattle.number_lists.specs.Lists.{is_filled, value_of, number_up_to, int_of, name_of}
-use Rattle.number_lists.specs.Scanning.{Fits, ended, most_of, int_form, name_form, int_value, name_value}
+use Rattle.number_lists.specs.tools.Scanning.{Fits, ended, most_of, int_form, name_form, int_value, name_value}
 use Rattle.number_lists.proofs.Numbers.{AreDigits, IsSpelled, Makes}
 use Rattle.number_lists.proofs.Walk.{none_some, some_none, is_sign}
 

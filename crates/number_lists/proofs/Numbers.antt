@@ -7,7 +7,7 @@ use Rattle.std.proofs.lemmas.Bool.Decides.{nat_tests}
 use Rattle.number_lists.specs.declared.scan.Form.{Form}
 use Rattle.number_lists.specs.declared.scan.Number.{Number}
 use Rattle.number_lists.specs.Lists.{is_blank, is_filled, value_of}
-use Rattle.number_lists.specs.Scanning.{most_of}
+use Rattle.number_lists.specs.tools.Scanning.{most_of}
 use Rattle.number_lists.proofs.Words.{IsWord}
 
 pub with_digit : ℕ → ℕ → ℕ

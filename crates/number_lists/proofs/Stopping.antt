@@ -5,7 +5,7 @@ use Rattle.number_lists.specs.declared.scan.Form.{Form}
 use Rattle.number_lists.specs.declared.scan.Number.{Number}
 use Rattle.number_lists.specs.declared.scan.State.{State}
 use Rattle.number_lists.specs.Lists.{is_blank, is_filled, words_of, numbers_of, with_number, list_of, Continues}
-use Rattle.number_lists.specs.Scanning.{step}
+use Rattle.number_lists.specs.tools.Scanning.{step}
 use Rattle.number_lists.proofs.Words.{IsWord, words_behind_blank, words_behind_word, words_of_word, goes_on, word_with}
 use Rattle.number_lists.proofs.Numbers.{signed, IsSpelled, Makes, spelled_is_word}
 use Rattle.number_lists.proofs.Walk.{Pending, refuses}

@@ -5,7 +5,7 @@ use Rattle.number_lists.specs.declared.scan.Form.{Form}
 use Rattle.number_lists.specs.declared.scan.Number.{Number}
 use Rattle.number_lists.specs.declared.scan.State.{State}
 use Rattle.number_lists.specs.Lists.{IsRefusedAt}
-use Rattle.number_lists.specs.Scanning.{step, given, last, scan}
+use Rattle.number_lists.specs.tools.Scanning.{step, given, last, scan}
 use Rattle.number_lists.proofs.Numbers.{Makes}
 use Rattle.number_lists.proofs.Whole.{Reads, reads}
 

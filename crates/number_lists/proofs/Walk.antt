@@ -6,8 +6,8 @@ use Rattle.number_lists.specs.declared.scan.Form.{Form}
 use Rattle.number_lists.specs.declared.scan.Number.{Number}
 use Rattle.number_lists.specs.declared.scan.State.{State}
 use Rattle.number_lists.specs.Lists.{is_blank, is_filled, value_of}
-use Rattle.number_lists.specs.Scanning.{most_of, nought, magnitude_with, begun, step, ended}
-use Rattle.number_lists.specs.Scanning as scanning
+use Rattle.number_lists.specs.tools.Scanning.{most_of, nought, magnitude_with, begun, step, ended}
+use Rattle.number_lists.specs.tools.Scanning as scanning
 use Rattle.number_lists.proofs.Numbers.{signed, AreDigits, MayBe, IsSpelled, digit_is_no_blank, digit_is_no_sign, digits_before, digits_behind, value_behind, value_grows}
 
 -- the bytes since the last blank, by the state that they lead to

@@ -5,8 +5,8 @@ use Rattle.number_lists.specs.declared.scan.Form.{Form}
 use Rattle.number_lists.specs.declared.scan.Number.{Number}
 use Rattle.number_lists.specs.declared.scan.State.{State}
 use Rattle.number_lists.specs.Lists.{is_blank, is_filled, list_of, with_number, Continues, IsRefusedAt}
-use Rattle.number_lists.specs.Scanning.{most_of, nought, begun, step, given, last, scan}
-use Rattle.number_lists.specs.Scanning as scanning
+use Rattle.number_lists.specs.tools.Scanning.{most_of, nought, begun, step, given, last, scan}
+use Rattle.number_lists.specs.tools.Scanning as scanning
 use Rattle.number_lists.proofs.Words.{IsWord}
 use Rattle.number_lists.proofs.Numbers.{AreDigits, IsSpelled, Makes}
 use Rattle.number_lists.proofs.Walk.{Pending, taken, blank_is_no_digit, sign_is_no_digit, rest_of}

@@ -2,7 +2,7 @@
 
 ghost use Rattle.std.specs.Prelude.{◌≡◌, ◌<◌, ◌≤◌, ◌^◌, length, IfOk};
 ghost use Rattle.number_lists.specs.Lists.{Answers, int_of, name_of};
-ghost use Rattle.number_lists.specs.Scanning.{int_form, int_value, most_of};
+ghost use Rattle.number_lists.specs.tools.Scanning.{int_form, int_value, most_of};
 
 use crate::fault::ListFault;
 use crate::scan::{Form, Number, State, ended, step};

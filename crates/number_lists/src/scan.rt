@@ -1,7 +1,7 @@
 //! One byte of a list after the other.
 
 ghost use Rattle.std.specs.Prelude.{◌≡◌, IfSome};
-ghost use Rattle.number_lists.specs.Scanning as scanning;
+ghost use Rattle.number_lists.specs.tools.Scanning as scanning;
 
 /// Which numbers a list may have: the greatest, and the greatest behind a minus sign where there may be one.
 #[derive(Clone, Copy)]

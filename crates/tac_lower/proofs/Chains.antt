@@ -13,7 +13,7 @@ use Rattle.tac_lower.specs.Parts.{Part, Made, given, chained, followed, gathered
 use Rattle.tac_lower.specs.Instrs.{field, set, store, get, load}
 use Rattle.tac_lower.specs.Stmts.{returned}
 use Rattle.tac_lower.specs.Values.{Yield, direct, left, onward, temp, part_of, truth_as, negation, prefix, carried, is_int}
-use Rattle.tac_lower.specs.Emits.{Exact, Emitted, Emits, Yields, Counts, Counted, spots, temp_in, at_spot, part_at, write_at, changed}
+use Rattle.tac_lower.specs.tools.Emits.{Exact, Emitted, Emits, Yields, Counts, Counted, spots, temp_in, at_spot, part_at, write_at, changed}
 
 -- no code
 pub nothing : {A : Type 0} (a : A) (ends : Ends) (old : Writer) → Emits (given a) ends old old (Ok a)

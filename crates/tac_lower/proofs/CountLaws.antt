@@ -12,7 +12,7 @@ use Rattle.tac_ir.specs.declared.code.Code.{Code}
 use Rattle.tac_ir.specs.Counts.{nodes_by, nodes_in, shape_nodes}
 use Rattle.tac_ir.specs.Numbers.{new_def, numbers_in}
 use Rattle.tac_lower.specs.Limits.{Share, passing, starting_in, defs_in, def_shares, global_nodes, fun_nodes, site_nodes, node_shares}
-use Rattle.tac_lower.specs.Counting.{capped, capped_share, AreNodes, is_def}
+use Rattle.tac_lower.specs.tools.Counting.{capped, capped_share, AreNodes, is_def}
 
 -- A limit.
 pub passing-stops : (limit : ℕ) (s : Share) (rest : List Share) → limit < s.count → passing limit (s ∷ rest) ≡ Some s.line

@@ -10,7 +10,7 @@ use Rattle.tac_ir.specs.declared.code.Site.{Site}
 use Rattle.tac_lower.specs.declared.draft.Draft.{Draft}
 use Rattle.tac_lower.specs.declared.types.Interner.{Interner}
 use Rattle.tac_lower.specs.CodeOf.{Item, all_of, item_at, site_by, need_by, sites_in, needs_in, variables_in, shaped, finished, fun_of, funs_of, site_of}
-use Rattle.tac_lower.specs.Interning.{IsKept, Interned, is_new, with_shape, joined}
+use Rattle.tac_lower.specs.tools.Interning.{IsKept, Interned, is_new, with_shape, joined}
 use Rattle.tac_lower.proofs.InternedLists.{after, both}
 
 -- One draft.

@@ -11,7 +11,7 @@ use Rattle.tac_lower.specs.declared.writer.Stop.{Stop}
 use Rattle.tac_lower.specs.Functions.{function, around, first_of, no_loop, drafts_from}
 use Rattle.tac_lower.specs.Limits.{Share, passing, point_limit}
 use Rattle.tac_lower.specs.CodeOf.{sizes_of, first_numbers}
-use Rattle.tac_lower.specs.Drafted.{draft_shares, IsWritten, Writes, Drafts, fault_of}
+use Rattle.tac_lower.specs.tools.Drafted.{draft_shares, IsWritten, Writes, Drafts, fault_of}
 use Rattle.tac_lower.proofs.SizedStmts.{function_sized}
 
 -- the points of each function

@@ -6,7 +6,7 @@ use Rattle.tac_lower.specs.declared.writer.Stop.{Stop}
 use Rattle.tac_lower.specs.Parts.{Part, from_here, within, ◌⨟◌}
 use Rattle.tac_lower.specs.Instrs.{jump}
 use Rattle.tac_lower.specs.Stmts.{leaving}
-use Rattle.tac_lower.specs.Emits.{Exact, Emitted, Emits}
+use Rattle.tac_lower.specs.tools.Emits.{Exact, Emitted, Emits}
 use Rattle.tac_lower.proofs.Chains.{follow, stopped}
 
 -- one piece, and then another

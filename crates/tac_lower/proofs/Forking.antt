@@ -9,8 +9,8 @@ use Rattle.tac_lower.specs.declared.writer.Stop.{Stop}
 use Rattle.tac_lower.specs.Parts.{Part, one, in_turn}
 use Rattle.tac_lower.specs.Instrs.{draft, no_number}
 use Rattle.tac_lower.specs.Stmts.{entries, fork, branches}
-use Rattle.tac_lower.specs.Emits.{Exact, Emits, Counts}
-use Rattle.tac_lower.specs.Nested.{Forks}
+use Rattle.tac_lower.specs.tools.Emits.{Exact, Emits, Counts}
+use Rattle.tac_lower.specs.tools.Nested.{Forks}
 
 abbrev pub total : List (Part ℕ) → ℕ
 total ps = sum (map (λ p. p.points) ps)

@@ -7,7 +7,7 @@ use Rattle.tac_lower.specs.declared.writer.Writer.{Writer}
 use Rattle.tac_lower.specs.declared.writer.Stop.{Stop}
 use Rattle.tac_lower.specs.Parts.{Part, gathered}
 use Rattle.tac_lower.specs.Values.{expr, value, values_of}
-use Rattle.tac_lower.specs.Emits.{Emitted, Emits}
+use Rattle.tac_lower.specs.tools.Emits.{Emitted, Emits}
 use Rattle.tac_lower.proofs.Chains.{follow, stopped, nothing, gathered_counts}
 
 -- what is left from a place on, where that place has this item

@@ -10,7 +10,7 @@ use Rattle.c_typed.specs.declared.program.Struct.{Struct}
 use Rattle.tac_ir.specs.declared.code.Shape.{Shape}
 use Rattle.tac_lower.specs.declared.types.Interner.{Interner}
 use Rattle.tac_lower.specs.Shapes.{Entry, entered, array_entry, struct_entry, part_entries, whole_entry, entry, object_entry, shapes_from, shape_number}
-use Rattle.tac_lower.specs.Interning.{Stays, IsKept, Entered, Enters, Interned, first_structs}
+use Rattle.tac_lower.specs.tools.Interning.{Stays, IsKept, Entered, Enters, Interned, first_structs}
 use Rattle.tac_lower.proofs.Interns.{fixed, shape_interns, arrays_intern, type_interns, structs_intern, shapes_from-grow, shapes_from-append}
 
 -- What stays.

@@ -7,7 +7,7 @@ use Rattle.std.proofs.lemmas.List.{map_push}
 use Rattle.c_typed.specs.Types.{same_lengths}
 use Rattle.tac_lower.specs.declared.shapes.Key.{Key}
 use Rattle.tac_lower.specs.contracts.shapes.KeyPartialEq.TheImpl.{eq-value}
-use Rattle.tac_lower.specs.Keys.{shape_of}
+use Rattle.tac_lower.specs.tools.Keys.{shape_of}
 use Rattle.tac_lower.specs.Shapes.{same_shape, entered_at, entered}
 
 abbrev pub same_key : Key → Key → Bool

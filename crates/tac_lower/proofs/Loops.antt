@@ -7,7 +7,7 @@ use Rattle.tac_lower.specs.declared.writer.Stop.{Stop}
 use Rattle.tac_lower.specs.Parts.{Part, from_here, within, ◌⨟◌}
 use Rattle.tac_lower.specs.Instrs.{jump}
 use Rattle.tac_lower.specs.Stmts.{Around, condition, guard, turn, while, for}
-use Rattle.tac_lower.specs.Emits.{Emitted, Emits, Counts, Counted}
+use Rattle.tac_lower.specs.tools.Emits.{Emitted, Emits, Counts, Counted}
 use Rattle.tac_lower.proofs.Chains.{counted_stopped, too_long}
 use Rattle.tac_lower.proofs.Follows.{next, halt, here, inside, exactly}
 

@@ -11,7 +11,7 @@ use Rattle.tac_lower.specs.declared.fault.LowerWhat.{LowerWhat}
 use Rattle.tac_lower.specs.CodeOf.{finished, funs_of, drafts_of, code_with, code_of}
 use Rattle.tac_lower.specs.Limits.{points_in, point_shares, def_shares, node_shares, passing, point_limit, def_limit, node_limit, or_else}
 use Rattle.tac_lower.specs.Lowers.{Lowers}
-use Rattle.tac_lower.specs.Drafted.{AllDrafts, Drafts, draft_share, draft_shares}
+use Rattle.tac_lower.specs.tools.Drafted.{AllDrafts, Drafts, draft_share, draft_shares}
 
 shares_are : (shape : ObjectType → ℕ) (fs : List Function) (dss : List (List Draft)) → map points_in (funs_of shape fs dss) ≡ draft_shares fs dss
 shares_are shape [] dss = refl

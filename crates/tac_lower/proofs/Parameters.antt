@@ -9,7 +9,7 @@ use Rattle.tac_lower.specs.declared.writer.Stop.{Stop}
 use Rattle.tac_lower.specs.Parts.{Part, in_turn}
 use Rattle.tac_lower.specs.Instrs.{set}
 use Rattle.tac_lower.specs.Functions.{parameters_from}
-use Rattle.tac_lower.specs.Emits.{Emitted, Emits}
+use Rattle.tac_lower.specs.tools.Emits.{Emitted, Emits}
 use Rattle.tac_lower.proofs.Chains.{nothing}
 use Rattle.tac_lower.proofs.Follows.{next, halt}
 

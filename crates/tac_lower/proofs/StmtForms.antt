@@ -12,7 +12,7 @@ use Rattle.tac_lower.specs.Parts.{Part, in_turn, ◌⨟◌}
 use Rattle.tac_lower.specs.Instrs.{constant}
 use Rattle.tac_lower.specs.Values.{expr, value}
 use Rattle.tac_lower.specs.Stmts.{Around, stmt, stmt_step, assignment, compound, return, leaving, condition, guard, choice, while, for, branches, ended}
-use Rattle.tac_lower.specs.Nested.{branch}
+use Rattle.tac_lower.specs.tools.Nested.{branch}
 use Rattle.tac_lower.proofs.Levels.{stmt_roll}
 
 of_form : (c : Around) (s : Stmt) (x : Stmt-F Stmt) (f : Stmt) → s ≡ f → f ≡ roll-Stmt x → stmt c s ≡ stmt_step c (map-Stmt Stmt (Part ℕ) (stmt c) x)

@@ -12,7 +12,7 @@ use Rattle.tac_lower.specs.declared.draft.Draft.{Draft}
 use Rattle.tac_lower.specs.declared.types.Interner.{Interner}
 use Rattle.tac_lower.specs.CodeOf.{all_of, sites_in, needs_in, variables_in, types_needed, global_of, site_of, finished, funs_of, code_by, code_with}
 use Rattle.tac_lower.specs.Shapes.{shapes_of, shapes_from, shape_number}
-use Rattle.tac_lower.specs.Interning.{Interned, joined}
+use Rattle.tac_lower.specs.tools.Interning.{Interned, joined}
 use Rattle.tac_lower.proofs.DraftLaws.{joined_is}
 use Rattle.tac_lower.proofs.InternedLists.{both}
 

@@ -7,9 +7,4 @@ pub mod Shapes
 pub mod CodeOf
 pub mod Limits
 pub mod Lowers
-pub mod Emits
-pub mod Keys
-pub mod Interning
-pub mod Counting
-pub mod Drafted
-pub mod Nested
+pub mod tools

@@ -1,8 +1,8 @@
 //! `par` blocks.
 
 ghost use Rattle.std.specs.Prelude.{map};
-ghost use Rattle.tac_lower.specs.Emits.{Emits, Counts};
-ghost use Rattle.tac_lower.specs.Nested.{Forks, branch, closed};
+ghost use Rattle.tac_lower.specs.tools.Emits.{Emits, Counts};
+ghost use Rattle.tac_lower.specs.tools.Nested.{Forks, branch, closed};
 ghost use Rattle.tac_lower.specs.Parts.{in_turn};
 ghost use Rattle.tac_lower.specs.Stmts as spec;
 

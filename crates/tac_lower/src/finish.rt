@@ -2,7 +2,7 @@
 
 ghost use Rattle.std.specs.Prelude.{◌≡◌, reverse, IfOk};
 ghost use Rattle.tac_lower.specs.CodeOf.{code_with};
-ghost use Rattle.tac_lower.specs.Interning.{joined};
+ghost use Rattle.tac_lower.specs.tools.Interning.{joined};
 
 use crate::draft::Draft;
 use crate::types::Interner;

@@ -2,8 +2,8 @@
 
 ghost use Rattle.std.specs.Prelude.{◌≤◌, Bool};
 ghost use Rattle.tac_lower.specs.declared.draft.Ends.{Ends as EndsModel};
-ghost use Rattle.tac_lower.specs.Emits.{Emits};
-ghost use Rattle.tac_lower.specs.Nested.{guarded, skipped};
+ghost use Rattle.tac_lower.specs.tools.Emits.{Emits};
+ghost use Rattle.tac_lower.specs.tools.Nested.{guarded, skipped};
 ghost use Rattle.tac_lower.specs.Stmts as spec;
 
 use crate::draft::Ends;

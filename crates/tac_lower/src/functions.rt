@@ -3,8 +3,8 @@
 ghost use Rattle.std.specs.Prelude.{take, ◌+◌, ◌≤◌, ◌≡◌};
 ghost use Rattle.tac_lower.specs.declared.draft.Ends.{Ends};
 ghost use Rattle.tac_lower.specs.CodeOf.{first_numbers};
-ghost use Rattle.tac_lower.specs.Drafted.{Begins, Writes, Drafts, fault_of, is_pointer};
-ghost use Rattle.tac_lower.specs.Emits.{Emits};
+ghost use Rattle.tac_lower.specs.tools.Drafted.{Begins, Writes, Drafts, fault_of, is_pointer};
+ghost use Rattle.tac_lower.specs.tools.Emits.{Emits};
 ghost use Rattle.tac_lower.specs.Functions as spec;
 ghost use Rattle.tac_lower.specs.Parts.{in_turn};
 ghost use Rattle.tac_lower.specs.Stmts.{around_by};

@@ -3,7 +3,7 @@
 ghost use Rattle.std.specs.Prelude.{◌≡◌, ◌++◌, ◌<◌, length, map, sum, slice_index, IfOk, OnOk};
 ghost use Rattle.tac_ir.specs.Counts.{nodes_by};
 ghost use Rattle.tac_ir.specs.Numbers.{new_def, numbers_in};
-ghost use Rattle.tac_lower.specs.Counting.{AreNodes, capped, capped_share, is_def};
+ghost use Rattle.tac_lower.specs.tools.Counting.{AreNodes, capped, capped_share, is_def};
 ghost use Rattle.tac_lower.specs.Limits as spec;
 
 use crate::fault::{LowerFault, LowerWhat};

@@ -2,7 +2,7 @@
 
 ghost use Rattle.std.specs.Prelude.{◌≡◌, ◌++◌, map, IfOk, OnOk};
 ghost use Rattle.tac_lower.specs.CodeOf as spec;
-ghost use Rattle.tac_lower.specs.Interning.{IsKept, Interned, is_new, with_shape};
+ghost use Rattle.tac_lower.specs.tools.Interning.{IsKept, Interned, is_new, with_shape};
 
 use crate::draft::Draft;
 use crate::finish::reversed;

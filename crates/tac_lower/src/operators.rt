@@ -2,7 +2,7 @@
 
 ghost use Rattle.std.specs.Prelude.{pos};
 ghost use Rattle.tac_lower.specs.declared.draft.Ends.{Ends};
-ghost use Rattle.tac_lower.specs.Emits.{Emits};
+ghost use Rattle.tac_lower.specs.tools.Emits.{Emits};
 ghost use Rattle.tac_lower.specs.declared.plan.Plan.{Plan};
 ghost use Rattle.tac_lower.specs.Instrs as spec;
 ghost use Rattle.tac_lower.specs.Values.{against_null, truth_by, negation, prefix, carried, settled};

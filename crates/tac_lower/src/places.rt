@@ -2,7 +2,7 @@
 
 ghost use Rattle.std.specs.Prelude.{◌≡◌, IfOk};
 ghost use Rattle.tac_lower.specs.declared.draft.Ends.{Ends};
-ghost use Rattle.tac_lower.specs.Emits.{Emits, Yields, spots, temp_in, at_spot, part_at};
+ghost use Rattle.tac_lower.specs.tools.Emits.{Emits, Yields, spots, temp_in, at_spot, part_at};
 ghost use Rattle.tac_lower.specs.Instrs as spec;
 ghost use Rattle.tac_lower.specs.Parts.{given};
 ghost use Rattle.tac_lower.specs.Values.{deeper, object_of};

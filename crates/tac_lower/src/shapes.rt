@@ -2,7 +2,7 @@
 
 ghost use Rattle.std.specs.Prelude.{◌≡◌, [], ◌∷◌, IfOk};
 ghost use Rattle.tac_ir.specs.declared.code.Shape.{Shape};
-ghost use Rattle.tac_lower.specs.Keys.{shape_of};
+ghost use Rattle.tac_lower.specs.tools.Keys.{shape_of};
 ghost use Rattle.tac_lower.specs.Shapes.{entered, array_entry};
 
 use dfi_base::Memory;
@@ -30,7 +30,7 @@ pub struct Shapes {
 impl Model for Shapes {
     ghost use Rattle.std.specs.Prelude.{List, map};
     ghost use Rattle.tac_ir.specs.declared.code.Shape.{Shape};
-    ghost use Rattle.tac_lower.specs.Keys.{shape_of};
+    ghost use Rattle.tac_lower.specs.tools.Keys.{shape_of};
 
     ghost Value = { List Shape };
 

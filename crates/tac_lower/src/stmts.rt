@@ -1,7 +1,7 @@
 //! Statements, one case for each form.
 
 ghost use Rattle.std.specs.Prelude.{map};
-ghost use Rattle.tac_lower.specs.Emits.{Emits, Counts};
+ghost use Rattle.tac_lower.specs.tools.Emits.{Emits, Counts};
 ghost use Rattle.tac_lower.specs.Parts.{in_turn};
 ghost use Rattle.tac_lower.specs.Stmts as spec;
 

@@ -2,7 +2,7 @@
 
 ghost use Rattle.std.specs.Prelude.{◌≡◌, ◌≤◌, [], ◌∷◌, length, IfOk};
 ghost use Rattle.tac_ir.specs.declared.code.Shape.{Shape};
-ghost use Rattle.tac_lower.specs.Interning.{IsKept, Entered, Enters, Interned, first_structs};
+ghost use Rattle.tac_lower.specs.tools.Interning.{IsKept, Entered, Enters, Interned, first_structs};
 ghost use Rattle.tac_lower.specs.Shapes.{base_entry, object_entry, part_entries};
 
 use crate::shapes::{Key, Shapes};

@@ -2,7 +2,7 @@
 
 ghost use Rattle.std.specs.Prelude.{[]};
 ghost use Rattle.tac_lower.specs.declared.draft.Ends.{Ends};
-ghost use Rattle.tac_lower.specs.Emits.{Emits, Yields, Counts};
+ghost use Rattle.tac_lower.specs.tools.Emits.{Emits, Yields, Counts};
 ghost use Rattle.tac_lower.specs.Parts.{gathered};
 ghost use Rattle.tac_lower.specs.Values.{expr, value, values_of, truth, struct_sizes};
 

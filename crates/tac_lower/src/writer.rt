@@ -114,7 +114,7 @@ impl Writer {
     ghost use Rattle.tac_lower.specs.declared.draft.Ends.{Ends};
     ghost use Rattle.tac_lower.specs.Parts.{one};
     ghost use Rattle.tac_lower.specs.Instrs.{draft, no_number, a_temp};
-    ghost use Rattle.tac_lower.specs.Emits.{Emits};
+    ghost use Rattle.tac_lower.specs.tools.Emits.{Emits};
 
     /// A writer that counts what this one would emit.
     pub(crate) fn dry_run(&self, alloc: Global) -> Writer

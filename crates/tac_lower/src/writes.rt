@@ -3,7 +3,7 @@
 ghost use Rattle.std.specs.Prelude.{pos, ◌≡◌, ◌≤◌, IfOk, MatchResult};
 ghost use Rattle.tac_lower.specs.declared.draft.Ends.{Ends};
 ghost use Rattle.tac_lower.specs.declared.writer.Stop.{Stop};
-ghost use Rattle.tac_lower.specs.Emits.{Emits, at_spot, write_at, changed};
+ghost use Rattle.tac_lower.specs.tools.Emits.{Emits, at_spot, write_at, changed};
 ghost use Rattle.tac_lower.specs.Instrs as spec;
 ghost use Rattle.tac_lower.specs.Parts.{chained};
 ghost use Rattle.tac_lower.specs.Stmts as stmts;

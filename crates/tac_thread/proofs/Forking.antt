@@ -16,14 +16,14 @@ use Rattle.tac_thread.specs.declared.guest.Stage.{Stage}
 use Rattle.tac_thread.specs.declared.doing.Doing.{Doing}
 use Rattle.tac_thread.specs.declared.want.Want.{Want}
 use Rattle.tac_thread.specs.Meaning.{Meaning}
-use Rattle.tac_thread.specs.Fetched.{instr_in}
+use Rattle.tac_thread.specs.tools.Fetched.{instr_in}
 use Rattle.tac_thread.specs.Life.{Life, instr_of}
 use Rattle.tac_thread.specs.Doing.{doing, asked, given, tested, leaves, link_write, want_at, want_of}
 use Rattle.tac_thread.specs.RunsOn.{RunsOn}
 use Rattle.tac_thread.specs.Begun.{branch_of}
 use Rattle.tac_thread.specs.Guests.{IsGuestOf}
 use Rattle.tac_thread.specs.Threads.{Threads, Lives, life_in, is_waiting, running, want_of_life, changed, HasBranch, ended_of, Resumes, HasParent, AreGuests, IsTree, at_fork, with_branch, planted, IsStuck, TakesStacks, IsSame, Forks, ForksBy}
-use Rattle.tac_thread.specs.Settling.{IsWaiting, ArePlantable, IsFreeFor, IsApart, IsPlanting}
+use Rattle.tac_thread.specs.tools.Settling.{IsWaiting, ArePlantable, IsFreeFor, IsApart, IsPlanting}
 use Rattle.std.specs.Ordering.{nat_cmp}
 use Rattle.std.specs.BTreeMap.{is_at}
 use Rattle.tac_thread.proofs.Trees.{changed_here, changed_other, running_is, some_is}

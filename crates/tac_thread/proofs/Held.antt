@@ -16,7 +16,7 @@ use Rattle.tac_ir.specs.declared.code.Lined.{Lined}
 use Rattle.tac_ir.specs.Layout.{lines_of}
 use Rattle.tac_ir.specs.Counts.{temps_named, past, temps_in, temps_of_fun, temps_of}
 use Rattle.tac_ir.specs.GoodForm.{GoodForm, NamesExist, params_of}
-use Rattle.tac_thread.specs.Fetched.{instr_in}
+use Rattle.tac_thread.specs.tools.Fetched.{instr_in}
 use Rattle.tac_thread.proofs.Usable.{usable_line}
 use Rattle.tac_thread.specs.Life.{zero_of, Life, instr_of, temp}
 use Rattle.tac_thread.specs.Doing.{doing, asked, link_write, want_at, want_of, done, silent_at, silent_next}

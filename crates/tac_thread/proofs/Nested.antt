@@ -10,8 +10,8 @@ use Rattle.tac_ir.specs.Layout.{words_by, shape_words}
 use Rattle.tac_ir.specs.GoodForm.{GoodForm}
 use Rattle.tac_ir.proofs.ShapeWords.{shape_words-most}
 use Rattle.tac_thread.specs.declared.shapes.Repeat.{Repeat}
-use Rattle.tac_thread.specs.Paths.{NamesEarlier, HasItems, IsSized}
-use Rattle.tac_thread.specs.Splitting.{words_left, IsBefore, IsSplit}
+use Rattle.tac_thread.specs.tools.Paths.{NamesEarlier, HasItems, IsSized}
+use Rattle.tac_thread.specs.tools.Splitting.{words_left, IsBefore, IsSplit}
 
 pub array_split : (c : Code) (s len item : ℕ) (shape : Shape) → IsSized c s shape → shape ≡ Shape.Array len item → IsSplit c s 0 len (Some item)
 array_split c s len item shape is array =

@@ -5,7 +5,7 @@ use Rattle.tac_thread.specs.Meaning.{Meaning}
 use Rattle.tac_thread.specs.Life.{Life}
 use Rattle.tac_ir.specs.GoodForm.{GoodForm}
 use Rattle.tac_thread.specs.Doing.{silent_next, stepped}
-use Rattle.tac_thread.specs.Left.{left_of}
+use Rattle.tac_thread.specs.tools.Left.{left_of}
 use Rattle.tac_thread.proofs.Silent.{falls}
 use Rattle.tac_thread.specs.RunsOn.{RunsOn}
 use Rattle.tac_thread.specs.RunsOn.RunsOn.{rests, runs}

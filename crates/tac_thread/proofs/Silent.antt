@@ -13,11 +13,11 @@ use Rattle.tac_thread.specs.declared.guest.Stage.{Stage}
 use Rattle.tac_thread.specs.declared.doing.Doing.{Doing}
 use Rattle.tac_thread.specs.declared.want.Want.{Want}
 use Rattle.tac_thread.specs.Meaning.{Meaning}
-use Rattle.tac_thread.specs.Fetched.{instr_in}
+use Rattle.tac_thread.specs.tools.Fetched.{instr_in}
 use Rattle.tac_thread.specs.Life.{Life, instr_of}
 use Rattle.tac_thread.specs.Doing.{doing, given, tested, leaves, done, silent_at, silent_next}
 use Rattle.tac_thread.specs.RunsOn.{RunsOn, count_of}
-use Rattle.tac_thread.specs.Left.{is_silent, left_from, left_in, left_of}
+use Rattle.tac_thread.specs.tools.Left.{is_silent, left_from, left_in, left_of}
 
 -- an index behind this one, or a `turn`
 abbrev pub IsOnward : List Lined → ℕ → ℕ → Type 0

@@ -15,7 +15,7 @@ use Rattle.tac_ir.specs.Layout.{words_by, shape_words, words_before, parts_of, v
 use Rattle.tac_ir.specs.Places.{end_of_path, end_from, shape_of_place, IsPlace}
 use Rattle.tac_ir.specs.GoodForm.{GoodForm, shapes_named, count_of}
 use Rattle.tac_ir.proofs.ShapeWords.{shape_words-at, shape_words-none, shape_words-most, words_before-with, words_before-le, words_before-more, struct_words, along_within}
-use Rattle.tac_thread.specs.Paths.{LeadsTo, NamesEarlier, HasItems, IsSized, IsFitting}
+use Rattle.tac_thread.specs.tools.Paths.{LeadsTo, NamesEarlier, HasItems, IsSized, IsFitting}
 
 names_earlier : (s : ℕ) (shape : Shape) → All (λ n. n < s) (shapes_named shape) → NamesEarlier s shape
 names_earlier s Shape.Int h = tt

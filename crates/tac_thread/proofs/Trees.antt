@@ -23,7 +23,7 @@ use Rattle.tac_thread.specs.Guests.{IsGuestOf, TakesReply}
 use Rattle.tac_thread.specs.Threads.{Threads, Lives, life_in, is_waiting, running, IsRunnable, want_of_life, IsLeastOf, changed, HasBranch, end_in, ended_of, main_value, Settles, AreGuests, IsTree, Takes, IsFed, Resumes, IsStuck, at_fork, IsBegun}
 use Rattle.tac_thread.specs.Threads.Resumes.{none_lives}
 use Rattle.tac_thread.specs.Threads.Settles.{goes_on, main_ends, others_live, joins}
-use Rattle.tac_thread.specs.Settling.{first_running, IsStepped, IsSettling, IsWaiting, IsJoined, IsClosed, IsApart}
+use Rattle.tac_thread.specs.tools.Settling.{first_running, IsStepped, IsSettling, IsWaiting, IsJoined, IsClosed, IsApart}
 
 -- a thread that waits wants to
 pub waits_for : {X T : Type 0} (m : Meaning X T) (c : Code) (l : Life X T) → is_waiting l.stage ≡ true → want_of m c l ≡ Some Want.Waits

@@ -9,8 +9,8 @@ use Rattle.tac_ir.specs.Layout.{lines_of}
 use Rattle.tac_ir.specs.Numbers.{new_def, new_read}
 use Rattle.tac_ir.specs.GoodForm.{GoodForm, NamesExist, ForksWell}
 use Rattle.tac_ir.proofs.FormNumbers.{def_below, read_below, site_below, index_below}
-use Rattle.tac_thread.specs.Numbered.{is_numbered}
-use Rattle.tac_thread.specs.Fetched.{IsUsable}
+use Rattle.tac_thread.specs.tools.Numbered.{is_numbered}
+use Rattle.tac_thread.specs.tools.Fetched.{IsUsable}
 
 test-lt : (a : ℕ) → a < 65536 → nat_lt a 65536 ≡ true
 test-lt a h = grind (arith, nat_lt)

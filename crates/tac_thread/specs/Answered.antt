@@ -12,7 +12,7 @@ use Rattle.tac_thread.specs.declared.guest.Stage.{Stage}
 use Rattle.tac_thread.specs.declared.want.Want.{Want}
 use Rattle.tac_thread.specs.declared.want.ReplyOf.{ReplyOf}
 use Rattle.tac_thread.specs.Meaning.{Meaning}
-use Rattle.tac_thread.specs.Fetched.{instr_in}
+use Rattle.tac_thread.specs.tools.Fetched.{instr_in}
 use Rattle.tac_thread.specs.Life.{Life, instr_of, zero_of, temp, with_temp, at_index, with_top, with_stage}
 
 -- Calls.

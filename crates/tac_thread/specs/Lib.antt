@@ -1,6 +1,4 @@
 pub mod Meaning
-pub mod Numbered
-pub mod Fetched
 pub mod Life
 pub mod Flat
 pub mod Doing
@@ -8,9 +6,5 @@ pub mod Answered
 pub mod RunsOn
 pub mod Begun
 pub mod Guests
-pub mod Resuming
-pub mod Left
-pub mod Paths
-pub mod Splitting
 pub mod Threads
-pub mod Settling
+pub mod tools

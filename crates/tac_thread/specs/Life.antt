@@ -6,7 +6,7 @@ use Rattle.tac_ir.specs.Layout.{lines_of}
 use Rattle.tac_thread.specs.declared.guest.Activation.{Activation}
 use Rattle.tac_thread.specs.declared.guest.Stage.{Stage}
 use Rattle.tac_thread.specs.Meaning.{Meaning}
-use Rattle.tac_thread.specs.Fetched.{instr_in}
+use Rattle.tac_thread.specs.tools.Fetched.{instr_in}
 
 pub record Life (V S : Type 0) : Type 0 where
   -- the activation in which the thread stands

@@ -2,7 +2,7 @@ ghost use Rattle.std.specs.Prelude.{◌≡◌, ◌<◌, IsTrue};
 ghost use Rattle.tac_ir.specs.Effect.{divides};
 ghost use Rattle.tac_ir.specs.GoodForm.{GoodForm, NamesExist};
 ghost use Rattle.tac_thread.specs.Life.{temp, instr_of};
-ghost use Rattle.tac_thread.specs.Numbered.{is_numbered};
+ghost use Rattle.tac_thread.specs.tools.Numbered.{is_numbered};
 ghost use Rattle.tac_thread.specs.Guests.{IsFramed};
 ghost use Rattle.tac_thread.specs.Doing.{doing, given, tested, leaves, divided, IsWithin};
 

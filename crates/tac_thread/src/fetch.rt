@@ -2,7 +2,7 @@ ghost use Rattle.std.specs.Prelude.{◌≡◌, IfSome};
 ghost use Rattle.std.specs.Option.{option_copied};
 ghost use Rattle.tac_ir.specs.Layout.{lines_of};
 ghost use Rattle.tac_ir.specs.GoodForm.{GoodForm};
-ghost use Rattle.tac_thread.specs.Fetched.{found_or_end, instr_in, IsUsable};
+ghost use Rattle.tac_thread.specs.tools.Fetched.{found_or_end, instr_in, IsUsable};
 
 use tac_ir::{Code, Instr};
 

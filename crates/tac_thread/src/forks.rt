@@ -2,7 +2,7 @@ ghost use Rattle.std.specs.Prelude.{◌≡◌, ℕ, ◌+◌, ◌*◌, ◌<◌, �
 ghost use Rattle.tac_ir.specs.GoodForm.{GoodForm};
 ghost use Rattle.tac_thread.specs.Threads.{life_in, with_branch, planted, IsTree, IsStuck, TakesStacks, IsSame, Resumes};
 ghost use Rattle.tac_thread.specs.Guests.{IsGuestOf};
-ghost use Rattle.tac_thread.specs.Settling.{IsWaiting, ArePlantable, IsFreeFor, IsApart};
+ghost use Rattle.tac_thread.specs.tools.Settling.{IsWaiting, ArePlantable, IsFreeFor, IsApart};
 
 use crate::domain::Domain;
 use crate::guest::Guest;

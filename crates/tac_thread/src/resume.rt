@@ -3,8 +3,8 @@ ghost use Rattle.tac_ir.specs.GoodForm.{GoodForm};
 ghost use Rattle.tac_ir.specs.Layout.{lines_of};
 ghost use Rattle.tac_ir.specs.Path.{entry_before, region_by, region_in};
 ghost use Rattle.tac_thread.specs.Answered.{is_number, is_call_named, named_call, resumed_at};
-ghost use Rattle.tac_thread.specs.Resuming.{entry_here};
-ghost use Rattle.tac_thread.specs.Numbered.{is_numbered};
+ghost use Rattle.tac_thread.specs.tools.Resuming.{entry_here};
+ghost use Rattle.tac_thread.specs.tools.Numbered.{is_numbered};
 
 use crate::domain::Domain;
 use tac_ir::{BinOp, Code, Instr, Lined};

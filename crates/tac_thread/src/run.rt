@@ -1,8 +1,8 @@
 ghost use Rattle.std.specs.Prelude.{◌≡◌, ◌≤◌, false, IsTrue};
 ghost use Rattle.std.specs.Option.{option_copied};
 ghost use Rattle.tac_ir.specs.GoodForm.{GoodForm};
-ghost use Rattle.tac_thread.specs.Numbered.{is_numbered};
-ghost use Rattle.tac_thread.specs.Fetched.{found_or_end};
+ghost use Rattle.tac_thread.specs.tools.Numbered.{is_numbered};
+ghost use Rattle.tac_thread.specs.tools.Fetched.{found_or_end};
 ghost use Rattle.tac_thread.specs.Life.{instr_of};
 ghost use Rattle.tac_thread.specs.Doing.{asked, link_write, want_of, silent_next, stepped};
 ghost use Rattle.tac_thread.specs.RunsOn.{RunsOn};

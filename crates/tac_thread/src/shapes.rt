@@ -1,8 +1,8 @@
 ghost use Rattle.std.specs.Prelude.{◌≡◌, ◌*◌, Some, [], ◌∷◌, IfSome, MatchOption};
 ghost use Rattle.tac_ir.specs.GoodForm.{GoodForm};
 ghost use Rattle.tac_ir.specs.Layout.{shape_words};
-ghost use Rattle.tac_thread.specs.Paths.{IsSized};
-ghost use Rattle.tac_thread.specs.Splitting.{words_left, IsSplit};
+ghost use Rattle.tac_thread.specs.tools.Paths.{IsSized};
+ghost use Rattle.tac_thread.specs.tools.Splitting.{words_left, IsSplit};
 
 use tac_ir::{Code, Shape};
 

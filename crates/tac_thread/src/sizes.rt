@@ -1,7 +1,7 @@
 ghost use Rattle.std.specs.Prelude.{◌≡◌, ◌<◌, ◌≤◌, ◌^◌, ◌+◌, ◌-◌, sum, map, length, slice_index};
 ghost use Rattle.tac_ir.specs.GoodForm.{GoodForm};
 ghost use Rattle.tac_ir.specs.Places.{IsPlace};
-ghost use Rattle.tac_thread.specs.Paths.{LeadsTo, IsFitting};
+ghost use Rattle.tac_thread.specs.tools.Paths.{LeadsTo, IsFitting};
 ghost use Rattle.tac_ir.specs.Layout.{shape_words, words_before, parts_of, vars_of, shapes_of_globals, along, place_word, frame_words};
 
 use crate::shapes::shape_words;

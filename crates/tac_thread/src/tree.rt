@@ -4,7 +4,7 @@ ghost use Rattle.tac_ir.specs.GoodForm.{GoodForm};
 ghost use Rattle.std.specs.Ordering.{nat_cmp};
 ghost use Rattle.std.specs.Map.{keys_of};
 ghost use Rattle.std.specs.List.Sorted.{IsStrictlySortedBy};
-ghost use Rattle.tac_thread.specs.Settling.{first_running, IsStepped, IsSettling, IsClosed, IsWaiting, IsJoined};
+ghost use Rattle.tac_thread.specs.tools.Settling.{first_running, IsStepped, IsSettling, IsClosed, IsWaiting, IsJoined};
 ghost use Rattle.tac_thread.specs.Threads.{life_in, running, next_in, IsLeastOf, name_number, point_of, stack_of, end_in, ended_of, main_value, changed, HasBranch, Settles, IsFed, IsBegun, Forks, TakesStacks, AreGuests, IsTree, Takes, IsSame};
 
 use crate::domain::Domain;

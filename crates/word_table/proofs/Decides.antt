@@ -13,7 +13,7 @@ use Rattle.tac_ir.specs.Answers.{class_of, is_checked, is_allowed, read_answer, 
 use Rattle.word_table.specs.Tables.{CanRun}
 use Rattle.word_table.specs.Words.{Words}
 use Rattle.word_table.specs.Holds.{HoldsAfter}
-use Rattle.word_table.specs.Deciding.{found_by, decided}
+use Rattle.word_table.specs.tools.Deciding.{found_by, decided}
 use Rattle.word_table.proofs.Members.{allowed_is}
 
 past : (size w : ℕ) → size ≤ w → nat_le size w ≡ true

@@ -12,7 +12,7 @@ use Rattle.tac_ir.specs.Last.{Written, unwritten, starting, last_write}
 use Rattle.tac_ir.specs.Answers.{class_of}
 use Rattle.code_layout.specs.LaidOut.{global_start}
 use Rattle.word_table.specs.declared.areas.Area.{Area}
-use Rattle.word_table.specs.Areas.{area_at, areas_from, cells_of, area_words, memory_of}
+use Rattle.word_table.specs.tools.Areas.{area_at, areas_from, cells_of, area_words, memory_of}
 use Rattle.word_table.specs.Words.{Words}
 use Rattle.word_table.specs.Holds.{HoldsAfter}
 use Rattle.word_table.specs.Tables.{CanRun}

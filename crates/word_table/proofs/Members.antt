@@ -7,7 +7,7 @@ use Rattle.tac_ir.specs.Module.{Module}
 use Rattle.tac_ir.specs.Last.{Written}
 use Rattle.tac_ir.specs.Answers.{has, set_of, class_of, is_allowed}
 use Rattle.word_table.specs.Tables.{IsNumberOf, HasGoodTables, CanRun}
-use Rattle.word_table.specs.Classes.{is_class_in, AreShort}
+use Rattle.word_table.specs.tools.Classes.{is_class_in, AreShort}
 
 -- the class that stands for a definition
 pub class_found : (m : Module) (d k : ℕ) → (d ≡ 0 → ⊥) → slice_get m.classes (d - 1) ≡ Some k → class_of m d ≡ k

@@ -12,7 +12,7 @@ use Rattle.tac_ir.specs.Last.{Written, write_to, last_write}
 use Rattle.tac_ir.specs.Answers.{class_of, write_answer}
 use Rattle.word_table.specs.Words.{Words}
 use Rattle.word_table.specs.Holds.{HoldsAfter}
-use Rattle.word_table.specs.Deciding.{written}
+use Rattle.word_table.specs.tools.Deciding.{written}
 use Rattle.word_table.proofs.Decides.{writes_inside}
 
 abbrev last_by : Module → List Entry → ℕ → Option Written → Written

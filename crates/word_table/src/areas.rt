@@ -1,8 +1,8 @@
 ghost use Rattle.std.specs.Prelude.{◌≡◌, ◌≤◌, ◌+◌, ◌++◌, length, replicate, slice_index, IfOk, ◌<◌, ◌^◌};
 ghost use Rattle.tac_ir.specs.Words.{word_of};
 ghost use Rattle.tac_ir.specs.Answers.{class_of};
-ghost use Rattle.word_table.specs.Classes.{AreShort};
-ghost use Rattle.word_table.specs.Areas.{areas_from, area_words, memory_of};
+ghost use Rattle.word_table.specs.tools.Classes.{AreShort};
+ghost use Rattle.word_table.specs.tools.Areas.{areas_from, area_words, memory_of};
 
 use crate::classes::class_of;
 use dfi_base::Memory;

@@ -1,7 +1,7 @@
 ghost use Rattle.std.specs.Prelude.{◌≡◌, ℕ, ◌<◌, ◌^◌};
 ghost use Rattle.std.specs.List.{list_any};
 ghost use Rattle.tac_ir.specs.Answers.{class_of, set_of, is_checked};
-ghost use Rattle.word_table.specs.Classes.{is_class_in, AreShort};
+ghost use Rattle.word_table.specs.tools.Classes.{is_class_in, AreShort};
 
 use tac_ir::Module;
 

@@ -6,8 +6,8 @@ ghost use Rattle.tac_ir.specs.Layout.{memory_words};
 ghost use Rattle.tac_ir.specs.Module.{Module};
 ghost use Rattle.word_table.specs.Tables.{CanRun};
 ghost use Rattle.word_table.specs.Holds.{HoldsAfter};
-ghost use Rattle.word_table.specs.Classes.{AreShort};
-ghost use Rattle.word_table.specs.Deciding.{found_by, decided, written};
+ghost use Rattle.word_table.specs.tools.Classes.{AreShort};
+ghost use Rattle.word_table.specs.tools.Deciding.{found_by, decided, written};
 
 use crate::areas::{areas_of, classes_of, values_of};
 use crate::classes::{allows, class_of, is_checked};

@@ -1,5 +1,5 @@
 use Rattle.std.proofs.Common.{◌≡◌, ◌+◌, length, option_map}
-use Rattle.c_lex.specs.Scanning.{close_at}
+use Rattle.c_lex.specs.tools.Scanning.{close_at}
 use Rattle.c_lex.proofs.comment.close_at.Given as goal
 
 abbrev pub invariant-loop-rest : goal.invariant-loop-rest

@@ -1,5 +1,5 @@
 use Rattle.std.proofs.Common.{◌-◌, length}
-use Rattle.c_lex.specs.Reading.{IsRead}
+use Rattle.c_lex.specs.tools.Reading.{IsRead}
 use Rattle.c_lex.proofs.lexer.lex.Given as goal
 
 abbrev pub invariant-loop-at : goal.invariant-loop-at

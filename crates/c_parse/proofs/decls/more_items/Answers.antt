@@ -1,10 +1,10 @@
 use Rattle.std.proofs.Common.{rules, arith, refl}
 use Rattle.std.proofs.lemmas.Grind.{common_steps}
 use Rattle.c_lex.specs.declared.token.Mark.{Mark}
-use Rattle.c_parse.specs.Tokens.{is_mark}
-use Rattle.c_parse.specs.StmtParser as spec
-use Rattle.c_parse.specs.TypeParser.{after_comma}
-use Rattle.parse_laws.specs.Parsing.{found_and, ◌<$>◌}
+use Rattle.c_parse.specs.tools.Tokens.{is_mark}
+use Rattle.c_parse.specs.tools.StmtParser as spec
+use Rattle.c_parse.specs.tools.TypeParser.{after_comma}
+use Rattle.parse_law.specs.tools.Parsing.{found_and, ◌<$>◌}
 use Rattle.c_parse.proofs.Loops.{turn_first, turn_more, turn_none}
 use Rattle.c_parse.proofs.decls.more_items.Goals as goal
 use Rattle.c_parse.specs.NestingLimit.{nesting_limit}

@@ -4,7 +4,7 @@ use Rattle.dfi_base.specs.declared.numbers.Line.{Line}
 use Rattle.c_lex.specs.declared.token.Token.{Token}
 use Rattle.c_parse.specs.Symbol.{symbols_of}
 use Rattle.c_parse.specs.Parsed.{line_at}
-use Rattle.c_parse.specs.Failures as spec
+use Rattle.c_parse.specs.tools.Failures as spec
 use Rattle.c_parse.proofs.parser.line_from.Goals as goal
 
 line_in : (ts : List Token) (last : Line) (k : ℕ) (d : Token) → k < length ts → (slice_index_or ts k d).line ≡ line_at (symbols_of ts) last k

@@ -1,6 +1,6 @@
 use Rattle.std.proofs.Common.{◌≡◌, ◌++◌, drop}
 use Rattle.std.specs.Option.{option_map}
-use Rattle.c_parse.specs.ProgramParser as spec
+use Rattle.c_parse.specs.tools.ProgramParser as spec
 use Rattle.c_parse.proofs.programs.all_named.Given as goal
 
 abbrev pub invariant-loop-param : goal.invariant-loop-param

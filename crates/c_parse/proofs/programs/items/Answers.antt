@@ -1,7 +1,7 @@
 use Rattle.std.proofs.Common.{rules, arith, refl}
 use Rattle.std.proofs.lemmas.Grind.{common_steps}
-use Rattle.c_parse.specs.ProgramParser as spec
-use Rattle.parse_laws.specs.Parsing.{found_and, ◌<$>◌}
+use Rattle.c_parse.specs.tools.ProgramParser as spec
+use Rattle.parse_law.specs.tools.Parsing.{found_and, ◌<$>◌}
 use Rattle.c_parse.proofs.Loops.{turn_first, turn_more, turn_none}
 use Rattle.c_parse.proofs.programs.items.Goals as goal
 use Rattle.c_parse.specs.NestingLimit.{nesting_limit}

@@ -1,8 +1,8 @@
 use Rattle.std.proofs.Common.{rules, arith, refl}
 use Rattle.std.proofs.lemmas.Grind.{common_steps}
-use Rattle.c_parse.specs.ProgramParser as spec
-use Rattle.c_parse.specs.StmtParser.{is_open}
-use Rattle.parse_laws.specs.Parsing.{found_and, ◌<$>◌}
+use Rattle.c_parse.specs.tools.ProgramParser as spec
+use Rattle.c_parse.specs.tools.StmtParser.{is_open}
+use Rattle.parse_law.specs.tools.Parsing.{found_and, ◌<$>◌}
 use Rattle.c_parse.proofs.Loops.{turn_first, turn_more, turn_none}
 use Rattle.c_parse.proofs.programs.more_fields.Goals as goal
 

@@ -1,9 +1,9 @@
 use Rattle.std.proofs.Common.{◌≡◌, ◌-◌}
-use Rattle.parse_laws.specs.Parsing.{turns}
-use Rattle.c_parse.specs.ProgramParser as spec
-use Rattle.c_parse.specs.StmtParser.{is_open}
-use Rattle.parse_laws.specs.Parsing.{found_and, ◌<$>◌}
-use Rattle.c_parse.specs.Tokens.{goes}
+use Rattle.parse_law.specs.tools.Parsing.{turns}
+use Rattle.c_parse.specs.tools.ProgramParser as spec
+use Rattle.c_parse.specs.tools.StmtParser.{is_open}
+use Rattle.parse_law.specs.tools.Parsing.{found_and, ◌<$>◌}
+use Rattle.c_parse.specs.tools.Tokens.{goes}
 use Rattle.c_parse.proofs.programs.more_fields.Given as goal
 
 abbrev pub invariant-loop-turn : goal.invariant-loop-turn

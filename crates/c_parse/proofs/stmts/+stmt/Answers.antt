@@ -1,8 +1,8 @@
 use Rattle.std.proofs.Common.{rules, ◌≡◌, true, sym, subst, arith}
 use Rattle.std.proofs.lemmas.Grind.{common_steps}
-use Rattle.c_parse.specs.Tokens.{next, kind_of}
-use Rattle.c_parse.specs.Sorts.{is_stmt}
-use Rattle.c_parse.specs.Reads.{Reads}
+use Rattle.c_parse.specs.tools.Tokens.{next, kind_of}
+use Rattle.c_parse.specs.tools.Sorts.{is_stmt}
+use Rattle.c_parse.specs.tools.Reads.{Reads}
 use Rattle.c_parse.proofs.Knots.{stmt_step}
 use Rattle.c_parse.proofs.stmts.+stmt.Goals as goal
 

@@ -1,10 +1,10 @@
 use Rattle.std.proofs.Common.{◌≡◌, ◌-◌}
-use Rattle.parse_laws.specs.Parsing.{turns}
+use Rattle.parse_law.specs.tools.Parsing.{turns}
 use Rattle.c_lex.specs.declared.token.Mark.{Mark}
-use Rattle.c_parse.specs.Tokens.{is_mark}
-use Rattle.c_parse.specs.TypeParser as spec
-use Rattle.parse_laws.specs.Parsing.{found_and, ◌<$>◌}
-use Rattle.c_parse.specs.Tokens.{goes}
+use Rattle.c_parse.specs.tools.Tokens.{is_mark}
+use Rattle.c_parse.specs.tools.TypeParser as spec
+use Rattle.parse_law.specs.tools.Parsing.{found_and, ◌<$>◌}
+use Rattle.c_parse.specs.tools.Tokens.{goes}
 use Rattle.c_parse.proofs.types.more_lengths.Given as goal
 
 abbrev pub invariant-loop-turn : goal.invariant-loop-turn

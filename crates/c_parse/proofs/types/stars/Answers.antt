@@ -1,8 +1,8 @@
 use Rattle.std.proofs.Common.{rules, arith, refl}
 use Rattle.std.proofs.lemmas.Grind.{common_steps}
 use Rattle.c_lex.specs.declared.token.Mark.{Mark}
-use Rattle.c_parse.specs.Tokens.{is_mark}
-use Rattle.c_parse.specs.TypeParser as spec
+use Rattle.c_parse.specs.tools.Tokens.{is_mark}
+use Rattle.c_parse.specs.tools.TypeParser as spec
 use Rattle.c_parse.proofs.Loops.{turn_first, turn_more, turn_none}
 use Rattle.c_parse.proofs.types.stars.Goals as goal
 

@@ -1,7 +1,7 @@
 use Rattle.std.proofs.Common.{rules, ap, arith, sym, subst, Ok, Err, ◌≡◌, ◌≢◌, ◌∙◌}
 use Rattle.c_typed.specs.declared.fault.TypeFault.{TypeFault}
-use Rattle.c_types.specs.Steps.{Leaves}
-use Rattle.c_types.specs.StmtWalk as walk
+use Rattle.c_types.specs.tools.Steps.{Leaves}
+use Rattle.c_types.specs.tools.StmtWalk as walk
 use Rattle.c_types.proofs.WalkLaws.{as_walk, leaves_same, then_leaves}
 use Rattle.c_types.proofs.LeavesLaws.{told_leaves, first_told, then_told, as_told}
 use Rattle.c_types.proofs.WalkStmtLevels.{walk_block, walk_empty, walk_simple, walk_return, walk_break, walk_continue, walk_if, walk_while, walk_for, walk_par}

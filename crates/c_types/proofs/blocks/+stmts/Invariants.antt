@@ -1,6 +1,6 @@
 use Rattle.std.proofs.Common.{◌+◌, ◌*◌}
-use Rattle.c_types.specs.Steps.{one}
-use Rattle.c_types.specs.StmtWalk.{source_item_walk, source_branch_walk}
+use Rattle.c_types.specs.tools.Steps.{one}
+use Rattle.c_types.specs.tools.StmtWalk.{source_item_walk, source_branch_walk}
 use Rattle.c_types.proofs.EachLaws.{SoFar}
 use Rattle.c_types.proofs.StmtWeights.{weight, of_item, of_items, of_blocks, of_other}
 use Rattle.c_types.proofs.blocks.+stmts.Given as goal

@@ -5,7 +5,7 @@ use Rattle.c_typed.specs.declared.fault.TypeFault.{TypeFault}
 use Rattle.c_types.specs.declared.programs.Program.{Program}
 use Rattle.c_typed.specs.Typed.{Typed}
 use Rattle.c_typed.specs.Checks.{Checks, IsTyped}
-use Rattle.c_types.specs.ProgramWalk.{program_walk}
+use Rattle.c_types.specs.tools.ProgramWalk.{program_walk}
 use Rattle.c_types.proofs.Judges.{Judges, as_typed}
 use Rattle.c_types.proofs.WalkChecks.{walk_checks}
 use Rattle.c_types.proofs.checker.check.Goals as goal

@@ -1,5 +1,5 @@
-use Rattle.c_types.specs.Steps.{if_some}
-use Rattle.c_types.specs.DeclWalk.{local_item_walk}
+use Rattle.c_types.specs.tools.Steps.{if_some}
+use Rattle.c_types.specs.tools.DeclWalk.{local_item_walk}
 use Rattle.c_types.proofs.EachLaws.{SoFar}
 use Rattle.c_types.proofs.decls.local_items.Given as goal
 

@@ -5,9 +5,9 @@ use Rattle.c_typed.specs.Exprs.{value_by_type, place_by_type}
 use Rattle.dfi_base.specs.declared.numbers.Line.{Line}
 use Rattle.c_typed.specs.declared.types.ObjectType.{ObjectType}
 use Rattle.c_typed.specs.declared.expr.Expr.{Expr}
-use Rattle.c_types.specs.Steps.{Found, ◌>>=◌, broken, kept, Finds}
-use Rattle.c_types.specs.Outlines.{type_name_walk}
-use Rattle.c_types.specs.ExprWalk.{expr_walk, value, unary_walk, field_walk, arrow_walk, typed_cast_walk, allocated_by, sizeof_as, count_first, type_first}
+use Rattle.c_types.specs.tools.Steps.{Found, ◌>>=◌, broken, kept, Finds}
+use Rattle.c_types.specs.tools.Outlines.{type_name_walk}
+use Rattle.c_types.specs.tools.ExprWalk.{expr_walk, value, unary_walk, field_walk, arrow_walk, typed_cast_walk, allocated_by, sizeof_as, count_first, type_first}
 use Rattle.c_types.proofs.WalkLevels.{walk_number, walk_null, walk_name, walk_unary, walk_binary, walk_index, walk_field, walk_arrow, walk_cast, walk_call, walk_sizeof, walk_line}
 use Rattle.c_types.proofs.WalkLaws.{first_fails, then_finds, reads}
 use Rattle.c_types.proofs.AllocationLaws.{allocates, for_one, product_right, product_left, product_none, product_other, no_size}

@@ -1,4 +1,4 @@
-use Rattle.c_types.specs.ExprWalk.{expr_walk}
+use Rattle.c_types.specs.tools.ExprWalk.{expr_walk}
 use Rattle.c_types.proofs.AllocationLaws.{Gathered}
 use Rattle.c_types.proofs.exprs.+exprs.Given as goal
 

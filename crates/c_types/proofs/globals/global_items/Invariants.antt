@@ -1,4 +1,4 @@
-use Rattle.c_types.specs.ProgramWalk.{global_item_walk}
+use Rattle.c_types.specs.tools.ProgramWalk.{global_item_walk}
 use Rattle.c_types.proofs.EachLaws.{WentOn}
 use Rattle.c_types.proofs.globals.global_items.Given as goal
 

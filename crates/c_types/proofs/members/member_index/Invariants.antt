@@ -1,5 +1,5 @@
 use Rattle.std.proofs.Common.{◌≡◌, drop}
-use Rattle.c_types.specs.ExprWalk.{index_by}
+use Rattle.c_types.specs.tools.ExprWalk.{index_by}
 use Rattle.c_types.proofs.members.member_index.Given as goal
 
 abbrev pub invariant-loop-i : goal.invariant-loop-i

@@ -1,5 +1,5 @@
 use Rattle.std.proofs.Common.{◌≡◌, drop}
-use Rattle.c_types.specs.OutlineWalk.{numbered, with_function, no_numbers}
+use Rattle.c_types.specs.tools.OutlineWalk.{numbered, with_function, no_numbers}
 use Rattle.c_types.proofs.numbering.functions.Given as goal
 
 abbrev pub invariant-loop-item : goal.invariant-loop-item

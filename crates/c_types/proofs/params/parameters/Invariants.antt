@@ -1,4 +1,4 @@
-use Rattle.c_types.specs.DeclWalk.{parameter_walk}
+use Rattle.c_types.specs.tools.DeclWalk.{parameter_walk}
 use Rattle.c_types.proofs.EachLaws.{WentOn}
 use Rattle.c_types.proofs.params.parameters.Given as goal
 

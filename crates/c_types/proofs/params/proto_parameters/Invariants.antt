@@ -1,4 +1,4 @@
-use Rattle.c_types.specs.DeclWalk.{proto_parameter_walk}
+use Rattle.c_types.specs.tools.DeclWalk.{proto_parameter_walk}
 use Rattle.c_types.proofs.EachLaws.{WentOn}
 use Rattle.c_types.proofs.params.proto_parameters.Given as goal
 

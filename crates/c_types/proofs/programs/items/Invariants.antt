@@ -1,5 +1,5 @@
-use Rattle.c_types.specs.Steps.{if_some}
-use Rattle.c_types.specs.ProgramWalk.{item_walk}
+use Rattle.c_types.specs.tools.Steps.{if_some}
+use Rattle.c_types.specs.tools.ProgramWalk.{item_walk}
 use Rattle.c_types.proofs.EachLaws.{SoFar}
 use Rattle.c_types.proofs.programs.items.Given as goal
 

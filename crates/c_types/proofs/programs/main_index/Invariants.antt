@@ -1,5 +1,5 @@
 use Rattle.std.proofs.Common.{◌≡◌, drop}
-use Rattle.c_types.specs.ProgramWalk.{main_from}
+use Rattle.c_types.specs.tools.ProgramWalk.{main_from}
 use Rattle.c_types.proofs.programs.main_index.Given as goal
 
 abbrev pub invariant-loop-i : goal.invariant-loop-i

@@ -1,8 +1,8 @@
 use Rattle.std.proofs.Common.{sym, subst}
 use Rattle.c_typed.specs.Faults.{mismatch}
 use Rattle.c_typed.specs.Stmts.{tested}
-use Rattle.c_types.specs.Steps.{kept, Finds}
-use Rattle.c_types.specs.ExprWalk.{expr_walk, value}
+use Rattle.c_types.specs.tools.Steps.{kept, Finds}
+use Rattle.c_types.specs.tools.ExprWalk.{expr_walk, value}
 use Rattle.c_types.proofs.WalkLevels.{walk_line}
 use Rattle.c_types.proofs.WalkLaws.{then_finds}
 use Rattle.c_types.proofs.stmts.test.Goals as goal

@@ -1,4 +1,4 @@
-use Rattle.c_types.specs.ProgramWalk.{field_item_walk}
+use Rattle.c_types.specs.tools.ProgramWalk.{field_item_walk}
 use Rattle.c_types.proofs.EachLaws.{WentOn}
 use Rattle.c_types.proofs.structs.field_items.Given as goal
 

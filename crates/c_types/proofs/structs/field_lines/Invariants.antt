@@ -1,4 +1,4 @@
-use Rattle.c_types.specs.ProgramWalk.{field_line_walk}
+use Rattle.c_types.specs.tools.ProgramWalk.{field_line_walk}
 use Rattle.c_types.proofs.EachLaws.{WentOn}
 use Rattle.c_types.proofs.structs.field_lines.Given as goal
 

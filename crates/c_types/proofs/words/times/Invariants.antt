@@ -1,5 +1,5 @@
 use Rattle.std.proofs.Common.{◌≡◌, drop}
-use Rattle.c_types.specs.Outlines.{times}
+use Rattle.c_types.specs.tools.Outlines.{times}
 use Rattle.c_types.proofs.words.times.Given as goal
 
 abbrev pub invariant-loop-length : goal.invariant-loop-length

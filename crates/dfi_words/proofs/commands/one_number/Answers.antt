@@ -1,5 +1,5 @@
 use Rattle.std.proofs.Common.{map, string_bytes}
-use Rattle.dfi_words.specs.Jobs.{words_in}
+use Rattle.dfi_words.specs.tools.Jobs.{words_in}
 use Rattle.dfi_words.proofs.Jobs.{one_number_answer}
 use Rattle.dfi_words.proofs.commands.one_number.Goals as goal
 

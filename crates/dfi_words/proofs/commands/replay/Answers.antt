@@ -1,6 +1,6 @@
 use Rattle.std.proofs.Common.{map, string_bytes}
 use Rattle.std.proofs.lemmas.Result.{err_from_is_err_and}
-use Rattle.dfi_words.specs.Jobs.{words_in}
+use Rattle.dfi_words.specs.tools.Jobs.{words_in}
 use Rattle.dfi_words.proofs.Jobs.{replay_answer, replay_budget_err, replay_line_err}
 use Rattle.dfi_words.proofs.commands.replay.Goals as goal
 

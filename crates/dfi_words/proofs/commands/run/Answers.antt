@@ -1,7 +1,7 @@
 use Rattle.std.proofs.Common.{map, drop, codes, string_bytes}
 use Rattle.std.proofs.lemmas.Result.{err_from_is_err_and}
 use Rattle.dfi_words.specs.Reads.{Asks}
-use Rattle.dfi_words.specs.Jobs.{words_in}
+use Rattle.dfi_words.specs.tools.Jobs.{words_in}
 use Rattle.dfi_words.proofs.Runs.{run_answer, run_found, run_line_err, settings_err}
 use Rattle.dfi_words.proofs.commands.run.Goals as goal
 

@@ -1,6 +1,6 @@
 use Rattle.std.proofs.Common.{◌∙◌, ap, codes}
 use Rattle.clap.specs.Words.{with_rule}
-use Rattle.dfi_words.specs.Found.{option_arg}
+use Rattle.dfi_words.specs.tools.Found.{option_arg}
 use Rattle.dfi_words.specs.Reads.{run_options}
 use Rattle.dfi_words.proofs.Parses.{run_names}
 use Rattle.dfi_words.proofs.line.run_line.Goals as goal

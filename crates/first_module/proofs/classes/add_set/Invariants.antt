@@ -1,5 +1,5 @@
 use Rattle.std.proofs.Common.{◌≡◌, length, take}
-use Rattle.first_module.specs.Readers.{AddsReader}
+use Rattle.first_module.specs.tools.Readers.{AddsReader}
 use Rattle.first_module.proofs.classes.add_set.Given as goal
 
 abbrev pub invariant-loop-definition : goal.invariant-loop-definition

@@ -1,6 +1,6 @@
 use Rattle.std.proofs.Common.{◌≡◌, ◌∙◌, ap, arith, get_or, subst, sym, take}
 use Rattle.std.proofs.lemmas.List.{take_all}
-use Rattle.first_module.specs.Readers.{HasReaders}
+use Rattle.first_module.specs.tools.Readers.{HasReaders}
 use Rattle.first_module.proofs.ReaderLemmas.{has_readers-more, rows-has_readers}
 use Rattle.first_module.proofs.classes.readers.Goals as goal
 

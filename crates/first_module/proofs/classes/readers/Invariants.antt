@@ -1,5 +1,5 @@
 use Rattle.std.proofs.Common.{◌≡◌, suc, take}
-use Rattle.first_module.specs.Readers.{HasReaders}
+use Rattle.first_module.specs.tools.Readers.{HasReaders}
 use Rattle.first_module.proofs.classes.readers.Given as goal
 
 abbrev pub invariant-loop-set : goal.invariant-loop-set

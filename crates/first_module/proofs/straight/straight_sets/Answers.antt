@@ -1,8 +1,8 @@
 use Rattle.std.proofs.Common.{◌≡◌, ℕ, List, [], ◌∷◌, ◌++◌, Some, get_or, reverse, take, ap, sym, subst, ◌∙◌}
 use Rattle.tac_ir.specs.declared.code.Lined.{Lined}
 use Rattle.first_module.specs.SetsOf.{set_by, sets_behind}
-use Rattle.first_module.specs.Steps.{sets_in, step_of}
-use Rattle.first_module.specs.Trail.{HasTrail, NamesWithin}
+use Rattle.first_module.specs.tools.Steps.{sets_in, step_of}
+use Rattle.first_module.specs.tools.Trail.{HasTrail, NamesWithin}
 use Rattle.first_module.proofs.TrailLemmas.{earlier-more, in_list, names-here, plain, sets-added, sets-more, straight-more, trail-more}
 use Rattle.first_module.proofs.straight.straight_sets.Goals as goal
 

@@ -1,7 +1,7 @@
 use Rattle.std.proofs.Common.{◌≡◌, [], ◌++◌, drop, reverse, take}
 use Rattle.first_module.specs.StraightLine.{is_straight_behind}
 use Rattle.first_module.specs.SetsOf.{sets_behind}
-use Rattle.first_module.specs.Trail.{HasTrail}
+use Rattle.first_module.specs.tools.Trail.{HasTrail}
 use Rattle.first_module.proofs.straight.straight_sets.Given as goal
 
 abbrev pub invariant-loop-lined : goal.invariant-loop-lined

@@ -4,7 +4,7 @@ use Rattle.std.specs.List.{AllByRecursion}
 use Rattle.tac_ir.specs.Numbers.{defs_in_code}
 use Rattle.first_module.specs.declared.tables.Tables.{Tables}
 use Rattle.first_module.specs.ClassesOf.{classes_of}
-use Rattle.first_module.specs.Readers.{Ascends}
+use Rattle.first_module.specs.tools.Readers.{Ascends}
 use Rattle.first_module.specs.SetsOf.{sets_of}
 use Rattle.first_module.proofs.FormLemmas.{every-classes, few-sets, line-sets, sets-ascend}
 use Rattle.first_module.proofs.tables.make_tables.Goals as goal

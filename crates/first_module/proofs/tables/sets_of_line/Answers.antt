@@ -4,7 +4,7 @@ use Rattle.std.specs.List.{AllByRecursion}
 use Rattle.std.proofs.lemmas.Option.{slice_get_read}
 use Rattle.tac_ir.specs.declared.code.Fun.{Fun}
 use Rattle.tac_ir.specs.declared.code.Lined.{Lined}
-use Rattle.first_module.specs.Trail.{NamesWithin}
+use Rattle.first_module.specs.tools.Trail.{NamesWithin}
 use Rattle.first_module.proofs.FormLemmas.{names-within}
 use Rattle.first_module.proofs.tables.sets_of_line.Goals as goal
 

@@ -3,7 +3,7 @@ use Rattle.std.specs.Prelude.{option_map}
 use Rattle.std.proofs.lemmas.List.{length-append}
 use Rattle.tac_thread.specs.Threads.{name_number}
 use Rattle.flat_core.specs.Stands.{history_of}
-use Rattle.flat_core.specs.Ends.{IsLeastOf}
+use Rattle.flat_core.specs.tools.Ends.{IsLeastOf}
 use Rattle.flat_core.proofs.Turning.{nothing_least, least_more}
 use Rattle.flat_core.proofs.drive.least.Goals as goal
 

@@ -4,7 +4,7 @@ use Rattle.std.proofs.Common.{w32}
 use mir.Facts.{to_z-of_z}
 use Rattle.number_lists.specs.declared.scan.State.{State}
 use Rattle.number_lists.specs.Lists.{int_of}
-use Rattle.number_lists.specs.Scanning.{Fits, int_form, int_value}
+use Rattle.number_lists.specs.tools.Scanning.{Fits, int_form, int_value}
 use Rattle.number_lists.proofs.Forms.{ints_make, int_fits, ended_fits}
 use Rattle.number_lists.proofs.Turns.{GoesOn, one_turn, refused_turn, last_turn}
 use Rattle.number_lists.proofs.Few.{few_numbers}

@@ -1,6 +1,6 @@
 use Rattle.std.proofs.Common.{◌≡◌, drop, []}
 use Rattle.number_lists.specs.declared.scan.State.{State}
-use Rattle.number_lists.specs.Scanning.{Fits, int_form, int_value, scan}
+use Rattle.number_lists.specs.tools.Scanning.{Fits, int_form, int_value, scan}
 use Rattle.number_lists.proofs.lists.read_input.Given as goal
 
 -- what is left goes on as the whole began, and the number at hand is an `int`

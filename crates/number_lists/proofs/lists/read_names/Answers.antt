@@ -1,7 +1,7 @@
 use Rattle.std.proofs.Common.{sym, ap, subst, ◌∙◌, arith, Some, None, ◌+◌, ◌++◌, ◌∷◌, []}
 use Rattle.number_lists.specs.declared.scan.State.{State}
 use Rattle.number_lists.specs.Lists.{name_of}
-use Rattle.number_lists.specs.Scanning.{Fits, name_form, name_value}
+use Rattle.number_lists.specs.tools.Scanning.{Fits, name_form, name_value}
 use Rattle.number_lists.proofs.Forms.{names_make}
 use Rattle.number_lists.proofs.Turns.{GoesOn, one_turn, refused_turn, last_turn}
 use Rattle.number_lists.proofs.Few.{few_numbers}

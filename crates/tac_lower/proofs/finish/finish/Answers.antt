@@ -1,7 +1,7 @@
 use Rattle.std.proofs.Common.{◌∙◌, ap, map, subst}
 use Rattle.c_typed.specs.Typed.{Typed}
 use Rattle.tac_lower.specs.CodeOf.{all_of, code_with, finished, global_of, needs_in, site_of, sites_in, variables_in}
-use Rattle.tac_lower.specs.Interning.{Interned, joined}
+use Rattle.tac_lower.specs.tools.Interning.{Interned, joined}
 use Rattle.tac_lower.proofs.WholeCode.{whole_code}
 use Rattle.tac_lower.proofs.finish.finish.Goals as goal
 

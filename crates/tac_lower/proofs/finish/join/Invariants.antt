@@ -1,5 +1,5 @@
 use Rattle.std.proofs.Common.{◌≡◌, ◌++◌, drop, reverse}
-use Rattle.tac_lower.specs.Interning.{joined}
+use Rattle.tac_lower.specs.tools.Interning.{joined}
 use Rattle.tac_lower.proofs.finish.join.Given as goal
 
 abbrev pub invariant-loop-function : goal.invariant-loop-function

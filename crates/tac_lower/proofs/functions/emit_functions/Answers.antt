@@ -2,7 +2,7 @@ use Rattle.std.proofs.Common.{◌≡◌, ◌+◌, ◌≤◌, nat_eq, ◌∷◌, 
 use Rattle.tac_lower.specs.Stmts.{around_by}
 use Rattle.tac_lower.specs.Functions.{function}
 use Rattle.tac_lower.specs.CodeOf.{sizes_of, first_numbers}
-use Rattle.tac_lower.specs.Drafted.{IsWritten, Writes, Drafts}
+use Rattle.tac_lower.specs.tools.Drafted.{IsWritten, Writes, Drafts}
 use Rattle.tac_lower.proofs.Gathers.{left_from}
 use Rattle.tac_lower.proofs.Drafting.{drafting_more, drafting_stopped, drafting_done}
 use Rattle.tac_lower.proofs.functions.emit_functions.Goals as goal

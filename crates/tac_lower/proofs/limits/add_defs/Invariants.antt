@@ -1,5 +1,5 @@
 use Rattle.std.proofs.Common.{◌≡◌, ◌++◌, map, take}
-use Rattle.tac_lower.specs.Counting.{capped_share}
+use Rattle.tac_lower.specs.tools.Counting.{capped_share}
 use Rattle.tac_lower.specs.Limits.{defs_in}
 use Rattle.tac_lower.proofs.limits.add_defs.Given as goal
 

@@ -1,7 +1,7 @@
 use Rattle.std.proofs.Common.{◌≡◌, ◌+◌, ◌∙◌, [], ap, arith, length, slice_index, subst, sym, take}
 use Rattle.std.proofs.lemmas.List.{length_push}
 use Rattle.tac_ir.specs.Counts.{nodes_by}
-use Rattle.tac_lower.specs.Counting.{AreNodes, capped}
+use Rattle.tac_lower.specs.tools.Counting.{AreNodes, capped}
 use Rattle.tac_lower.proofs.CountLaws.{no_nodes, nodes_more}
 use Rattle.tac_lower.proofs.limits.count_nodes.Goals as goal
 

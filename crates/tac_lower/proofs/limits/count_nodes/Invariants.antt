@@ -1,5 +1,5 @@
 use Rattle.std.proofs.Common.{◌≡◌, length, take}
-use Rattle.tac_lower.specs.Counting.{AreNodes}
+use Rattle.tac_lower.specs.tools.Counting.{AreNodes}
 use Rattle.tac_lower.proofs.limits.count_nodes.Given as goal
 
 abbrev pub invariant-loop-shape : goal.invariant-loop-shape

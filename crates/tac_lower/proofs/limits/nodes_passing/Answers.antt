@@ -2,7 +2,7 @@ use Rattle.std.proofs.Common.{◌≡◌, ◌++◌, ◌∙◌, List, ℕ, ap, ari
 use Rattle.tac_ir.specs.declared.code.Fun.{Fun}
 use Rattle.tac_ir.specs.declared.code.Global.{Global}
 use Rattle.tac_ir.specs.declared.code.Site.{Site}
-use Rattle.tac_lower.specs.Counting.{AreNodes, capped}
+use Rattle.tac_lower.specs.tools.Counting.{AreNodes, capped}
 use Rattle.tac_lower.specs.Limits.{Share, passing, node_limit, node_shares}
 use Rattle.tac_lower.proofs.CountLaws.{node_shares-capped, passing-capped}
 use Rattle.tac_lower.proofs.limits.nodes_passing.Goals as goal

@@ -5,7 +5,7 @@ use Rattle.tac_ir.specs.declared.code.Code.{Code}
 use Rattle.tac_ir.specs.declared.code.Lined.{Lined}
 use Rattle.tac_ir.specs.Layout.{lines_of}
 use Rattle.tac_ir.specs.GoodForm.{GoodForm}
-use Rattle.tac_thread.specs.Fetched.{IsUsable}
+use Rattle.tac_thread.specs.tools.Fetched.{IsUsable}
 use Rattle.tac_thread.proofs.Usable.{usable_line}
 use Rattle.tac_thread.proofs.resume.named_call.Goals as goal
 

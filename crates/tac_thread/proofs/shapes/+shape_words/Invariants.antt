@@ -1,7 +1,7 @@
 use Rattle.std.proofs.Common.{◌≡◌, ◌+◌, ◌*◌, take}
 use Rattle.std.specs.List.{sum_by}
 use Rattle.tac_ir.specs.Layout.{shape_words}
-use Rattle.tac_thread.specs.Splitting.{words_left, IsBefore}
+use Rattle.tac_thread.specs.tools.Splitting.{words_left, IsBefore}
 use Rattle.tac_thread.proofs.Nested.{IsMeasured, count_left}
 use Rattle.tac_thread.proofs.shapes.+shape_words.Given as goal
 

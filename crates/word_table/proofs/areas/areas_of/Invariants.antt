@@ -1,5 +1,5 @@
 use Rattle.std.proofs.Common.{◌≡◌, ◌++◌, drop}
-use Rattle.word_table.specs.Areas.{areas_from}
+use Rattle.word_table.specs.tools.Areas.{areas_from}
 use Rattle.word_table.proofs.areas.areas_of.Given as goal
 
 abbrev pub invariant-loop-g : goal.invariant-loop-g

@@ -1,5 +1,5 @@
 use Rattle.std.proofs.Common.{◌≡◌, ◌+◌, ◌++◌, drop, length, replicate}
-use Rattle.word_table.specs.Areas.{cells_of, area_words}
+use Rattle.word_table.specs.tools.Areas.{cells_of, area_words}
 use Rattle.word_table.proofs.areas.classes_of.Given as goal
 
 abbrev pub invariant-loop-area : goal.invariant-loop-area

@@ -1,8 +1,8 @@
 use Rattle.std.proofs.Common.{◌≡◌, Some, None, [], ◌∷◌, length, refl, sym, ap, ◌∙◌}
-use Rattle.parse_laws.specs.Parsing.{finish, done, fault, unexpected}
+use Rattle.parse_law.specs.tools.Parsing.{finish, done, fault, unexpected}
 use Rattle.c_lex.specs.declared.token.Kind.{Kind}
 use Rattle.c_parse.specs.Symbol.{Symbols}
-use Rattle.c_parse.specs.Tokens as spec
+use Rattle.c_parse.specs.tools.Tokens as spec
 use Rattle.c_parse.proofs.cursor.Cursor.finish.Goals as goal
 
 finish_none : (ts : Symbols) → spec.kind_of (spec.next ts) ≡ None → finish ts ≡ done tt ts

@@ -1,5 +1,5 @@
 use Rattle.std.proofs.Common.{ap, sym, ◌∙◌}
-use Rattle.parse_laws.specs.Parsing.{skip, done}
+use Rattle.parse_law.specs.tools.Parsing.{skip, done}
 use Rattle.c_parse.proofs.Symbols.{skip_none, skip_one}
 use Rattle.c_parse.proofs.cursor.Cursor.skip.Goals as goal
 

@@ -1,7 +1,7 @@
 use Rattle.std.proofs.Common.{◌≡◌, ◌+◌, ◌-◌, ◌*◌, length}
-use Rattle.parse_laws.specs.Parsing.{rising, turns}
-use Rattle.c_parse.specs.ExprParser as spec
-use Rattle.c_parse.specs.Tokens.{goes}
+use Rattle.parse_law.specs.tools.Parsing.{rising, turns}
+use Rattle.c_parse.specs.tools.ExprParser as spec
+use Rattle.c_parse.specs.tools.Tokens.{goes}
 use Rattle.c_parse.proofs.exprs.Exprs.+level.Given as goal
 use Rattle.c_parse.specs.NestingLimit.{nesting_limit}
 

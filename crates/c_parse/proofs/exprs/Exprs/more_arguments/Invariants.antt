@@ -1,11 +1,11 @@
 use Rattle.std.proofs.Common.{◌≡◌, ◌-◌}
-use Rattle.parse_laws.specs.Parsing.{turns}
+use Rattle.parse_law.specs.tools.Parsing.{turns}
 use Rattle.c_lex.specs.declared.token.Mark.{Mark}
-use Rattle.c_parse.specs.Tokens.{is_mark}
-use Rattle.c_parse.specs.ExprParser as spec
-use Rattle.c_parse.specs.TypeParser.{after_comma}
-use Rattle.parse_laws.specs.Parsing.{found_and, ◌<$>◌}
-use Rattle.c_parse.specs.Tokens.{goes}
+use Rattle.c_parse.specs.tools.Tokens.{is_mark}
+use Rattle.c_parse.specs.tools.ExprParser as spec
+use Rattle.c_parse.specs.tools.TypeParser.{after_comma}
+use Rattle.parse_law.specs.tools.Parsing.{found_and, ◌<$>◌}
+use Rattle.c_parse.specs.tools.Tokens.{goes}
 use Rattle.c_parse.proofs.exprs.Exprs.more_arguments.Given as goal
 use Rattle.c_parse.specs.NestingLimit.{nesting_limit}
 

@@ -1,7 +1,7 @@
 use Rattle.std.proofs.Common.{rules, arith, refl}
 use Rattle.std.proofs.lemmas.Grind.{common_steps}
-use Rattle.c_parse.specs.Sorts.{is_suffix}
-use Rattle.c_parse.specs.ExprParser as spec
+use Rattle.c_parse.specs.tools.Sorts.{is_suffix}
+use Rattle.c_parse.specs.tools.ExprParser as spec
 use Rattle.c_parse.proofs.Loops.{turn_first, turn_more, turn_none}
 use Rattle.c_parse.proofs.exprs.Exprs.suffixes.Goals as goal
 use Rattle.c_parse.specs.NestingLimit.{nesting_limit}

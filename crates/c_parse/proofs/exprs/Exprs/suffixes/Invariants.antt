@@ -1,8 +1,8 @@
 use Rattle.std.proofs.Common.{◌≡◌, ◌-◌}
-use Rattle.parse_laws.specs.Parsing.{turns}
-use Rattle.c_parse.specs.Sorts.{is_suffix}
-use Rattle.c_parse.specs.ExprParser as spec
-use Rattle.c_parse.specs.Tokens.{goes}
+use Rattle.parse_law.specs.tools.Parsing.{turns}
+use Rattle.c_parse.specs.tools.Sorts.{is_suffix}
+use Rattle.c_parse.specs.tools.ExprParser as spec
+use Rattle.c_parse.specs.tools.Tokens.{goes}
 use Rattle.c_parse.proofs.exprs.Exprs.suffixes.Given as goal
 use Rattle.c_parse.specs.NestingLimit.{nesting_limit}
 

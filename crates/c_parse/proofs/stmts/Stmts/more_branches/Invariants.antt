@@ -1,8 +1,8 @@
 use Rattle.std.proofs.Common.{◌≡◌, ◌-◌}
-use Rattle.parse_laws.specs.Parsing.{turns}
-use Rattle.c_parse.specs.StmtParser as spec
-use Rattle.parse_laws.specs.Parsing.{found_and, ◌<$>◌}
-use Rattle.c_parse.specs.Tokens.{goes}
+use Rattle.parse_law.specs.tools.Parsing.{turns}
+use Rattle.c_parse.specs.tools.StmtParser as spec
+use Rattle.parse_law.specs.tools.Parsing.{found_and, ◌<$>◌}
+use Rattle.c_parse.specs.tools.Tokens.{goes}
 use Rattle.c_parse.proofs.stmts.Stmts.more_branches.Given as goal
 use Rattle.c_parse.specs.NestingLimit.{nesting_limit}
 

@@ -1,5 +1,5 @@
 use Rattle.std.proofs.Common.{◌≡◌, drop}
-use Rattle.c_types.specs.OutlineWalk.{shaped}
+use Rattle.c_types.specs.tools.OutlineWalk.{shaped}
 use Rattle.c_types.proofs.outline.Outline.add_shapes.Given as goal
 
 abbrev pub invariant-loop-item : goal.invariant-loop-item

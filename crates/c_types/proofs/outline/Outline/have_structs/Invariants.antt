@@ -1,5 +1,5 @@
 use Rattle.std.proofs.Common.{◌≡◌, drop}
-use Rattle.c_types.specs.ProgramWalk.{have_structs}
+use Rattle.c_types.specs.tools.ProgramWalk.{have_structs}
 use Rattle.c_types.proofs.outline.Outline.have_structs.Given as goal
 
 abbrev pub invariant-loop-t : goal.invariant-loop-t

@@ -1,5 +1,5 @@
 use Rattle.std.proofs.Common.{◌≡◌, ◌++◌, drop}
-use Rattle.c_types.specs.OutlineWalk.{members_of}
+use Rattle.c_types.specs.tools.OutlineWalk.{members_of}
 use Rattle.c_types.proofs.outline.Outline.members.Given as goal
 
 abbrev pub invariant-loop-field : goal.invariant-loop-field

@@ -1,5 +1,5 @@
 use Rattle.std.proofs.Common.{◌≡◌, drop}
-use Rattle.c_types.specs.OutlineWalk.{words_from}
+use Rattle.c_types.specs.tools.OutlineWalk.{words_from}
 use Rattle.c_types.proofs.outline.Outline.members_words.Given as goal
 
 abbrev pub invariant-loop-member : goal.invariant-loop-member

@@ -1,5 +1,5 @@
 use Rattle.std.proofs.Common.{◌≡◌, ◌++◌, drop}
-use Rattle.c_types.specs.OutlineWalk.{signatures}
+use Rattle.c_types.specs.tools.OutlineWalk.{signatures}
 use Rattle.c_types.proofs.outline.Outline.signatures.Given as goal
 
 abbrev pub invariant-loop-item : goal.invariant-loop-item

@@ -1,5 +1,5 @@
 use Rattle.std.proofs.Common.{◌≡◌, map, take}
-use Rattle.c_types.specs.DeclWalk.{parameter_type}
+use Rattle.c_types.specs.tools.DeclWalk.{parameter_type}
 use Rattle.c_types.proofs.outline.Outline.types_of.Given as goal
 
 abbrev pub invariant-loop-p : goal.invariant-loop-p

@@ -1,5 +1,5 @@
 use Rattle.std.proofs.Common.{ap, sym, ◌∙◌, arith}
-use Rattle.c_types.specs.Tables.{put_in}
+use Rattle.c_types.specs.tools.Tables.{put_in}
 use Rattle.c_types.proofs.TableLaws.{put_within, put_behind}
 use Rattle.c_types.proofs.table.Table.put.Goals as goal
 

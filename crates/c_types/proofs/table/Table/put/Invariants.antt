@@ -1,5 +1,5 @@
 use Rattle.std.proofs.Common.{◌≡◌, suc, ◌-◌, length}
-use Rattle.c_types.specs.Tables.{put_in}
+use Rattle.c_types.specs.tools.Tables.{put_in}
 use Rattle.c_types.proofs.table.Table.put.Given as goal
 
 abbrev pub invariant-loop-self : goal.invariant-loop-self

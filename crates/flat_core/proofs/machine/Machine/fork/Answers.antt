@@ -1,7 +1,7 @@
 use Rattle.std.proofs.Common.{◌≡◌, ◌/◌, sym, ◌∙◌, ap, subst, length}
 use Rattle.std.specs.Prelude.{MatchOption}
-use Rattle.flat_path.specs.Wants.{room_in}
-use Rattle.flat_path.specs.Alive.{AreShares}
+use Rattle.path_law.specs.Wants.{room_in}
+use Rattle.path_law.specs.Alive.{AreShares}
 use Rattle.flat_core.proofs.Branches.{takes_shares, forked}
 use Rattle.flat_core.proofs.machine.Machine.fork.Goals as goal
 

@@ -1,8 +1,8 @@
 use Rattle.std.proofs.Common.{ap, subst}
 use Rattle.tac_thread.specs.Threads.{life_in, IsBegun, IsTree}
 use Rattle.tac_thread.specs.Flat.{flat_meaning}
-use Rattle.flat_path.specs.Begins.{root_stack}
-use Rattle.flat_path.proofs.Grown.{tree_begins}
+use Rattle.path_law.specs.Begins.{root_stack}
+use Rattle.path_law.proofs.Grown.{tree_begins}
 use Rattle.flat_core.proofs.machine.Machine.new.Goals as goal
 
 pub returns : goal.returns

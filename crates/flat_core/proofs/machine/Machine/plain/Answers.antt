@@ -1,6 +1,6 @@
 use Rattle.std.proofs.Common.{refl, sym, ◌∙◌, ap}
-use Rattle.flat_path.specs.Wants.{room_in}
-use Rattle.flat_core.specs.Asked.{entry_of}
+use Rattle.path_law.specs.Wants.{room_in}
+use Rattle.flat_core.specs.tools.Asked.{entry_of}
 use Rattle.flat_core.proofs.Telling.{plain_takes_no_stack}
 use Rattle.flat_core.proofs.Performing.{takes_answered, performed}
 use Rattle.flat_core.proofs.machine.Machine.plain.Goals as goal

@@ -1,8 +1,8 @@
 use Rattle.std.proofs.Common.{◌≡◌, refl, true, Ok, sym, ◌∙◌, ap, subst}
 use mir.Facts.{to_z-of_z}
 use Rattle.tac_ir.specs.declared.run.Op.{Op}
-use Rattle.flat_path.specs.Wants.{room_in}
-use Rattle.flat_core.specs.Asked.{entry_of}
+use Rattle.path_law.specs.Wants.{room_in}
+use Rattle.flat_core.specs.tools.Asked.{entry_of}
 use Rattle.flat_core.proofs.Keeping.{untaken}
 use Rattle.flat_core.proofs.Telling.{is_told, takes_no_stack, told_of, replied_goes, silent_stops, block_value}
 use Rattle.flat_core.proofs.Performing.{takes_answered, performed, stopped}

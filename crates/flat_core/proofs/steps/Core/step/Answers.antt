@@ -1,7 +1,7 @@
 use Rattle.std.proofs.Common.{◌∷◌, [], ◌++◌, refl, sym, ◌∙◌, ap, subst}
 use Rattle.tac_thread.specs.Threads.{life_in, running, IsTree}
 use Rattle.tac_thread.specs.Flat.{flat_meaning}
-use Rattle.flat_core.specs.Asked.{asked_of, entry_of}
+use Rattle.flat_core.specs.tools.Asked.{asked_of, entry_of}
 use Rattle.flat_core.specs.Serves.{Serves}
 use Rattle.flat_core.specs.Stands.{history_of}
 use Rattle.flat_core.proofs.Ending.{over_is, goes_on}

@@ -1,5 +1,5 @@
 use Rattle.std.proofs.Common.{◌≡◌, ◌++◌, map}
-use Rattle.tac_lower.specs.Keys.{shape_of}
+use Rattle.tac_lower.specs.tools.Keys.{shape_of}
 use Rattle.tac_lower.proofs.shapes.Shapes.into_items.Given as goal
 
 abbrev pub invariant-loop-key : goal.invariant-loop-key

@@ -1,5 +1,5 @@
 use Rattle.std.proofs.Common.{◌∙◌, ap, sym}
-use Rattle.tac_lower.specs.Keys.{shape_of}
+use Rattle.tac_lower.specs.tools.Keys.{shape_of}
 use Rattle.tac_lower.specs.Shapes.{entered}
 use Rattle.tac_lower.proofs.KeyLaws.{entered_is}
 use Rattle.tac_lower.proofs.shapes.Shapes.number.Goals as goal

@@ -2,7 +2,7 @@ use Rattle.std.proofs.Common.{◌≡◌, ◌∙◌, [], Some, ap, arith, length,
 use Rattle.std.proofs.lemmas.Option.{slice_get_read}
 use Rattle.std.proofs.lemmas.Result.{IfOk-weaker}
 use Rattle.tac_lower.specs.Shapes.{Entry, array_entry, base_entry, object_entry, part_entries}
-use Rattle.tac_lower.specs.Interning.{Entered, Enters, first_structs}
+use Rattle.tac_lower.specs.tools.Interning.{Entered, Enters, first_structs}
 use Rattle.tac_lower.proofs.InternedLists.{arrays_entered, struct_hidden, struct_known, struct_entered}
 use Rattle.tac_lower.proofs.types.Interner.+types.Goals as goal
 

@@ -1,6 +1,6 @@
 use Rattle.std.proofs.Common.{◌≡◌, ◌*◌, ◌+◌, drop, []}
 use Rattle.tac_lower.specs.Shapes.{part_entries}
-use Rattle.tac_lower.specs.Interning.{IsKept, first_structs}
+use Rattle.tac_lower.specs.tools.Interning.{IsKept, first_structs}
 use Rattle.tac_lower.proofs.types.Interner.+types.Given as goal
 
 -- a struct is looked at with fewer structs before it

@@ -1,7 +1,7 @@
 use Rattle.std.proofs.Common.{◌≡◌, ◌∙◌, ◌+◌, ◌++◌, [], ◌∷◌, ap, map, of_z, rules, sym, subst, take, to_z, w32, arith}
 use Rattle.std.proofs.lemmas.List.{take_all}
 use Rattle.tac_lower.specs.CodeOf.{global_of}
-use Rattle.tac_lower.specs.Interning.{Interned}
+use Rattle.tac_lower.specs.tools.Interning.{Interned}
 use Rattle.tac_lower.proofs.InternedLists.{each_more}
 use Rattle.tac_lower.proofs.types.Interner.globals.Goals as goal
 

@@ -1,6 +1,6 @@
 use Rattle.std.proofs.Common.{map, take}
 use Rattle.tac_lower.specs.CodeOf.{global_of}
-use Rattle.tac_lower.specs.Interning.{Interned}
+use Rattle.tac_lower.specs.tools.Interning.{Interned}
 use Rattle.tac_lower.proofs.types.Interner.globals.Given as goal
 
 abbrev pub invariant-loop-global : goal.invariant-loop-global

@@ -1,7 +1,7 @@
 use Rattle.std.proofs.Common.{◌≡◌, ◌++◌, List, length, map, reverse}
 use Rattle.tac_lower.specs.declared.draft.Draft.{Draft}
 use Rattle.tac_lower.specs.CodeOf.{all_of, finished, needs_in}
-use Rattle.tac_lower.specs.Interning.{Interned}
+use Rattle.tac_lower.specs.tools.Interning.{Interned}
 use Rattle.tac_lower.proofs.types.Interner.lines.Given as goal
 
 abbrev pub invariant-loop-drafts : goal.invariant-loop-drafts

@@ -1,7 +1,7 @@
 use Rattle.std.proofs.Common.{◌≡◌, ◌++◌, List, length, map, reverse}
 use Rattle.tac_lower.specs.declared.draft.Draft.{Draft}
 use Rattle.tac_lower.specs.CodeOf.{finished, needs_in}
-use Rattle.tac_lower.specs.Interning.{Interned}
+use Rattle.tac_lower.specs.tools.Interning.{Interned}
 use Rattle.tac_lower.proofs.types.Interner.lines_in.Given as goal
 
 abbrev pub invariant-loop-draft : goal.invariant-loop-draft

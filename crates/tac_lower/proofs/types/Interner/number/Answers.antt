@@ -1,7 +1,7 @@
 use Rattle.std.proofs.Common.{[], ◌∷◌, length}
 use Rattle.std.proofs.lemmas.Result.{IfOk-weaker}
 use Rattle.tac_lower.specs.Shapes.{object_entry}
-use Rattle.tac_lower.specs.Interning.{Enters, Interned, first_structs}
+use Rattle.tac_lower.specs.tools.Interning.{Enters, Interned, first_structs}
 use Rattle.tac_lower.proofs.InternedLists.{single}
 use Rattle.tac_lower.proofs.types.Interner.number.Goals as goal
 

@@ -1,5 +1,5 @@
 use Rattle.std.proofs.Common.{map, take}
-use Rattle.tac_lower.specs.Interning.{Interned}
+use Rattle.tac_lower.specs.tools.Interning.{Interned}
 use Rattle.tac_lower.proofs.types.Interner.variables.Given as goal
 
 abbrev pub invariant-loop-variable : goal.invariant-loop-variable

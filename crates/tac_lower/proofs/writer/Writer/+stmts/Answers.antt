@@ -1,7 +1,7 @@
 use Rattle.std.proofs.Common.{length, rules, map, ◌≡◌, ℕ, ◌+◌, ◌<◌, ◌≤◌, add-zero, Ok, Err, option_map, refl, ap, sym, ◌∙◌, subst, arith}
 use Rattle.tac_lower.specs.declared.draft.Ends.{Ends}
-use Rattle.tac_lower.specs.Emits.{Emits, Counts}
-use Rattle.tac_lower.specs.Nested.{Forks, branch, closed, guarded, skipped}
+use Rattle.tac_lower.specs.tools.Emits.{Emits, Counts}
+use Rattle.tac_lower.specs.tools.Nested.{Forks, branch, closed, guarded, skipped}
 use Rattle.tac_lower.specs.Parts.{in_turn, ◌⨟◌}
 use Rattle.tac_lower.specs.Instrs.{jump, skip}
 use Rattle.tac_lower.specs.Stmts.{around_by, stmt, condition, guard, choice, while, for, fork, branches, stop}

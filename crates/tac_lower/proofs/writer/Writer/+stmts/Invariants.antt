@@ -3,8 +3,8 @@ use Rattle.tac_lower.specs.declared.writer.Writer.{Writer}
 use Rattle.tac_lower.specs.declared.writer.Stop.{Stop}
 use Rattle.tac_lower.specs.Parts.{in_turn}
 use Rattle.tac_lower.specs.Stmts.{around_by, stmt}
-use Rattle.tac_lower.specs.Emits.{Emits}
-use Rattle.tac_lower.specs.Nested.{branch}
+use Rattle.tac_lower.specs.tools.Emits.{Emits}
+use Rattle.tac_lower.specs.tools.Nested.{branch}
 use Rattle.tac_lower.proofs.Turns.{Rest}
 use Rattle.tac_lower.proofs.Forking.{Forking}
 use denote.Param.Weighed.{most, w_this}

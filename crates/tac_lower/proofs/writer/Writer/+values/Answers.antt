@@ -5,7 +5,7 @@ use Rattle.tac_ir.specs.declared.code.Instr.{Instr}
 use Rattle.tac_ir.specs.declared.code.Place.{Place}
 use Rattle.tac_lower.specs.declared.draft.Ends.{Ends}
 use Rattle.tac_lower.specs.declared.writer.Spot.{Spot}
-use Rattle.tac_lower.specs.Emits.{Emits, Yields, Counts, part_at}
+use Rattle.tac_lower.specs.tools.Emits.{Emits, Yields, Counts, part_at}
 use Rattle.tac_lower.specs.Parts.{given, gathered, chained, ◌▷◌, ◌⨟◌}
 use Rattle.tac_lower.specs.Instrs as i
 use Rattle.tac_lower.specs.Values.{expr, value, values_of, truth, truth_by, struct_sizes, object_of, is_int, left, read, pointer_to, part_of, prefix, plan, carried, settled, operation, operation_by}

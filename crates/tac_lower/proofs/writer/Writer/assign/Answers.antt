@@ -1,5 +1,5 @@
 use Rattle.std.proofs.Common.{rules, ◌≡◌, Err, refl, sym, subst}
-use Rattle.tac_lower.specs.Emits.{Emits, write_at}
+use Rattle.tac_lower.specs.tools.Emits.{Emits, write_at}
 use Rattle.tac_lower.specs.Parts.{◌▷◌}
 use Rattle.tac_lower.specs.Instrs as i
 use Rattle.tac_lower.specs.Values.{expr, value, struct_sizes}

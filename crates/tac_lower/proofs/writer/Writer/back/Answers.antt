@@ -2,7 +2,7 @@ use Rattle.std.proofs.Common.{rules, ◌≡◌, Err, refl, sym, subst}
 use Rattle.tac_lower.specs.declared.plan.Plan.{Plan}
 use Rattle.tac_ir.specs.declared.code.UnOp.{UnOp}
 use Rattle.tac_lower.specs.Instrs.{index, prefixed}
-use Rattle.tac_lower.specs.Emits.{Emits}
+use Rattle.tac_lower.specs.tools.Emits.{Emits}
 use Rattle.tac_lower.specs.Values.{carried}
 use Rattle.tac_lower.proofs.Chains.{follow, stopped}
 use Rattle.tac_lower.proofs.writer.Writer.back.Goals as goal

@@ -1,5 +1,5 @@
 use Rattle.std.proofs.Common.{rules, ◌≡◌, Ok, Err, ap, sym, ◌∙◌, subst}
-use Rattle.tac_lower.specs.Emits.{Emits, write_at, changed}
+use Rattle.tac_lower.specs.tools.Emits.{Emits, write_at, changed}
 use Rattle.tac_lower.specs.Values.{struct_sizes, carried}
 use Rattle.tac_lower.proofs.Chains.{write_counts, follow, stopped}
 use Rattle.tac_lower.specs.Stmts as stmts

@@ -1,7 +1,7 @@
 use Rattle.std.proofs.Common.{rules, ◌≡◌, subst, w32}
 use Rattle.std.proofs.Common.{to_z, of_z}
 use Rattle.tac_lower.specs.Instrs as spec
-use Rattle.tac_lower.specs.Emits.{Emits}
+use Rattle.tac_lower.specs.tools.Emits.{Emits}
 use Rattle.tac_lower.proofs.writer.Writer.constant.Goals as goal
 
 pub returns : goal.returns

@@ -3,8 +3,8 @@ use Rattle.std.proofs.lemmas.Bool.{lt-ltb}
 use Rattle.c_typed.specs.declared.types.ObjectType.{ObjectType}
 use Rattle.tac_lower.specs.Instrs.{constant, null}
 use Rattle.tac_lower.specs.Functions.{default, default_by}
-use Rattle.tac_lower.specs.Drafted.{is_pointer}
-use Rattle.tac_lower.specs.Emits.{Emits}
+use Rattle.tac_lower.specs.tools.Drafted.{is_pointer}
+use Rattle.tac_lower.specs.tools.Emits.{Emits}
 use Rattle.tac_lower.proofs.writer.Writer.default_value.Goals as goal
 
 some_stars : (line stars : ℕ) → nat_lt 0 stars ≡ true → default_by line stars ≡ null line

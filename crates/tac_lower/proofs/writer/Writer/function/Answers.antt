@@ -2,7 +2,7 @@ use Rattle.std.proofs.Common.{rules, ◌≡◌, map, take, Ok, Err, sym, subst}
 use Rattle.tac_lower.specs.Parts.{in_turn, ◌▷◌, ◌⨟◌}
 use Rattle.tac_lower.specs.Stmts.{around_by, stmt, returned}
 use Rattle.tac_lower.specs.Functions.{parameters_from, default, function, no_loop}
-use Rattle.tac_lower.specs.Emits.{Emits}
+use Rattle.tac_lower.specs.tools.Emits.{Emits}
 use Rattle.tac_lower.proofs.Chains.{follow, stopped, returned_counts}
 use Rattle.tac_lower.proofs.Follows.{next, halt}
 use Rattle.tac_lower.proofs.writer.Writer.function.Goals as goal

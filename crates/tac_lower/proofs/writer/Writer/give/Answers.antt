@@ -1,5 +1,5 @@
 use Rattle.std.proofs.Common.{rules, ◌≡◌, pos, Err, sym, subst}
-use Rattle.tac_lower.specs.Emits.{Emits}
+use Rattle.tac_lower.specs.tools.Emits.{Emits}
 use Rattle.tac_lower.specs.Parts.{◌▷◌}
 use Rattle.tac_lower.specs.Instrs as i
 use Rattle.tac_lower.specs.Values.{expr, value, struct_sizes}

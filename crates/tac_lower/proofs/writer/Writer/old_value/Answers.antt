@@ -1,5 +1,5 @@
 use Rattle.std.proofs.Common.{subst}
-use Rattle.tac_lower.specs.Emits.{Emits}
+use Rattle.tac_lower.specs.tools.Emits.{Emits}
 use Rattle.tac_lower.specs.Instrs as i
 use Rattle.tac_lower.proofs.writer.Writer.old_value.Goals as goal
 

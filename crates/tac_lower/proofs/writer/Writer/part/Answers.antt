@@ -1,7 +1,7 @@
 use Rattle.std.proofs.Common.{sym, subst}
 use Rattle.tac_lower.specs.declared.writer.Spot.{Spot}
 use Rattle.tac_lower.specs.Instrs as spec
-use Rattle.tac_lower.specs.Emits.{Yields, part_at}
+use Rattle.tac_lower.specs.tools.Emits.{Yields, part_at}
 use Rattle.tac_lower.specs.Values.{object_of}
 use Rattle.tac_lower.proofs.Chains.{leaves}
 use Rattle.tac_lower.proofs.writer.Writer.part.Goals as goal

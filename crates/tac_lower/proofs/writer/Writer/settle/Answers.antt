@@ -1,7 +1,7 @@
 use Rattle.std.proofs.Common.{rules, ◌≡◌, pos, Err, refl, sym, subst}
 use Rattle.tac_lower.specs.Parts.{◌▷◌, ◌⨟◌}
 use Rattle.tac_lower.specs.Instrs.{test, constant, skip, zero_again}
-use Rattle.tac_lower.specs.Emits.{Emits}
+use Rattle.tac_lower.specs.tools.Emits.{Emits}
 use Rattle.tac_lower.specs.Values.{settled}
 use Rattle.tac_lower.proofs.Chains.{follow, stopped}
 use Rattle.tac_lower.proofs.writer.Writer.settle.Goals as goal

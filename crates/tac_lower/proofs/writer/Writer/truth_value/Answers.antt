@@ -1,5 +1,5 @@
 use Rattle.std.proofs.Common.{rules, ◌≡◌, Err, sym, subst}
-use Rattle.tac_lower.specs.Emits.{Emits}
+use Rattle.tac_lower.specs.tools.Emits.{Emits}
 use Rattle.tac_lower.specs.Values.{expr, value, truth, truth_by, struct_sizes, is_int}
 use Rattle.tac_lower.proofs.Levels.{typing_is}
 use Rattle.tac_lower.proofs.Chains.{follow, stopped, truth_counts}

@@ -1,5 +1,5 @@
 use Rattle.tac_thread.specs.Guests.{IsHeld}
-use Rattle.tac_thread.specs.Left.{left_of}
+use Rattle.tac_thread.specs.tools.Left.{left_of}
 use Rattle.tac_thread.proofs.Runs.{Continues}
 use Rattle.tac_thread.proofs.guest.Guest.run_on.Given as goal
 

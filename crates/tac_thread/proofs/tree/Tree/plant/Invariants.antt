@@ -1,6 +1,6 @@
 use Rattle.std.proofs.Common.{◌≡◌, length}
 use Rattle.tac_thread.specs.Threads.{life_in}
-use Rattle.tac_thread.specs.Settling.{IsPlanting}
+use Rattle.tac_thread.specs.tools.Settling.{IsPlanting}
 use Rattle.tac_thread.proofs.tree.Tree.plant.Given as goal
 
 abbrev pub invariant-loop-guest : goal.invariant-loop-guest

@@ -1,5 +1,5 @@
 use Rattle.tac_thread.specs.Threads.{life_in}
-use Rattle.tac_thread.specs.Settling.{IsSettling}
+use Rattle.tac_thread.specs.tools.Settling.{IsSettling}
 use Rattle.tac_thread.proofs.Trees.{SettlesOn}
 use Rattle.tac_thread.proofs.tree.Tree.settle.Given as goal
 

@@ -1,6 +1,6 @@
 use Rattle.std.proofs.Common.{◌≡◌, ℕ, ◌+◌, ◌*◌, ◌≤◌, ◌<◌, None}
 use Rattle.tac_thread.specs.Threads.{life_in}
-use Rattle.tac_thread.specs.Settling.{IsApart}
+use Rattle.tac_thread.specs.tools.Settling.{IsApart}
 use Rattle.tac_thread.proofs.tree.Tree.uproot.Given as goal
 
 -- the first branches live no more, and all else is as it was

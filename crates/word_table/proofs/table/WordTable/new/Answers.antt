@@ -2,7 +2,7 @@ use Rattle.std.proofs.Common.{◌∙◌, ap, sym, subst}
 use Rattle.std.specs.Prelude.{slice_index}
 use Rattle.tac_ir.specs.Layout.{memory_words, shape_words}
 use Rattle.tac_ir.specs.GoodForm.{GoodForm}
-use Rattle.word_table.specs.Areas.{memory_of}
+use Rattle.word_table.specs.tools.Areas.{memory_of}
 use Rattle.word_table.proofs.Members.{short}
 use Rattle.word_table.proofs.LaidOut.{laid_out}
 use Rattle.word_table.proofs.Initial.{fits, begins}

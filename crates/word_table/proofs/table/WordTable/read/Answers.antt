@@ -1,5 +1,5 @@
 use Rattle.std.proofs.Common.{◌∙◌, ap}
-use Rattle.word_table.specs.Deciding.{decided}
+use Rattle.word_table.specs.tools.Deciding.{decided}
 use Rattle.word_table.proofs.Members.{short}
 use Rattle.word_table.proofs.Decides.{reads}
 use Rattle.word_table.proofs.table.WordTable.read.Goals as goal

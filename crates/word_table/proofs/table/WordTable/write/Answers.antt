@@ -1,7 +1,7 @@
 use Rattle.std.proofs.Common.{◌∷◌, ◌∙◌, ap, sym, subst}
 use Rattle.tac_ir.specs.Answers.{class_of}
 use Rattle.word_table.specs.Holds.{HoldsAfter}
-use Rattle.word_table.specs.Deciding.{written}
+use Rattle.word_table.specs.tools.Deciding.{written}
 use Rattle.word_table.proofs.Members.{short}
 use Rattle.word_table.proofs.Writes.{after_write}
 use Rattle.word_table.proofs.table.WordTable.write.Goals as goal

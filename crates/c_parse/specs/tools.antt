@@ -1,0 +1,9 @@
+pub mod Sorts
+pub mod Tokens
+pub mod Reads
+pub mod TypeParser
+pub mod ExprParser
+pub mod StmtParser
+pub mod ProgramParser
+pub mod Nests
+pub mod Failures

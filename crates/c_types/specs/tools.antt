@@ -1,0 +1,12 @@
+pub mod Answers
+pub mod Tables
+pub mod Steps
+pub mod Outlines
+pub mod ExprWalk
+pub mod KnownSteps
+pub mod DeclWalk
+pub mod StmtWalk
+pub mod OutlineWalk
+pub mod ProgramSteps
+pub mod ProgramWalk
+pub mod Negatable

@@ -1,0 +1,4 @@
+pub mod Readers
+pub mod Counted
+pub mod Steps
+pub mod Trail

@@ -1,0 +1,5 @@
+pub mod Nesting
+pub mod FirstFault
+pub mod Tells
+pub mod BracketSums
+pub mod tools

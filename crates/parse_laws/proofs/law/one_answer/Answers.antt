@@ -1,5 +1,0 @@
-use Rattle.parse_laws.proofs.BracketSums.{sums_answer}
-use Rattle.parse_laws.proofs.law.one_answer.Goals as goal
-
-pub returns : goal.returns
-returns c = sums_answer

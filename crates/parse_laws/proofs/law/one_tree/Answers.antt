@@ -1,5 +1,0 @@
-use Rattle.parse_laws.proofs.BracketSums.{sums_one_tree}
-use Rattle.parse_laws.proofs.law.one_tree.Goals as goal
-
-pub returns : goal.returns
-returns c = sums_one_tree

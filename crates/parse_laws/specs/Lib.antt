@@ -1,5 +1,0 @@
-pub mod Parsing
-pub mod Nesting
-pub mod FirstFault
-pub mod Tells
-pub mod BracketSums

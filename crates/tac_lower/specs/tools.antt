@@ -1,0 +1,6 @@
+pub mod Emits
+pub mod Keys
+pub mod Interning
+pub mod Counting
+pub mod Drafted
+pub mod Nested

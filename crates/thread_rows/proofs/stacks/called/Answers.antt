@@ -1,6 +1,0 @@
-use Rattle.tac_ir.specs.Layout.{frame_words}
-use Rattle.thread_rows.proofs.Frames.{has_called}
-use Rattle.thread_rows.proofs.stacks.called.Goals as goal
-
-pub returns : goal.returns
-returns c = has_called (frame_words c.args.c.now c.args.fun) c.args.s.now _ c.enter.ensures
