@@ -10,8 +10,6 @@ mod classes;
 mod definitions;
 mod ends;
 mod outputs;
-#[cfg(test)]
-mod tests;
 mod writers;
 
 use crate::ends::push_end;

@@ -4,6 +4,7 @@ use Rattle.dfi_base.specs.declared.numbers.Line.{Line}
 use Rattle.c_ast.specs.declared.program.Field.{Field}
 use Rattle.c_ast.specs.declared.program.Item.{Item}
 use Rattle.c_ast.specs.Leaves.{Leaf, name, number, leaves_of}
+use Rattle.dfi_base.specs.Limits.{token_limit}
 
 pub record Ast : Type 0 where
   pub items : List Item
@@ -29,5 +30,5 @@ HasFields i = Unit {0}
 pub record IsBuilt (items : List Item) (names : List (List ℕ)) : Type 0 where
   pub names_differ : AllDiffer names
   pub written : All (IsWritten (length names)) (leaves_of items)
-  pub few : length (leaves_of items) ≤ 200000
+  pub few : length (leaves_of items) ≤ token_limit
   pub fields : All HasFields items

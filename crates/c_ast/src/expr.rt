@@ -43,7 +43,7 @@ pub enum BinaryOp {
 #[cycle(expr)]
 #[derive(Drop)]
 pub struct Expr {
-    /// The line of its first token, a parenthesis round it too.
+    /// The line of its own first token: a parenthesis round it is none of its tokens.
     pub line: Line,
     pub form: Form,
 }

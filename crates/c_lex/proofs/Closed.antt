@@ -15,7 +15,7 @@ use Rattle.c_lex.specs.Bytes.{is_white, is_word_byte, is_newline}
 use Rattle.c_lex.specs.Marks.{mark_of, spellings}
 use Rattle.c_lex.specs.PieceOf.{begins, block_piece, but_last, has_close, piece_of, run_piece, when}
 use Rattle.c_lex.specs.Words.{look_up}
-use Rattle.c_lex.proofs.Front.{map_none, piece_block, piece_line, piece_mark, piece_nil, piece_run, piece_white, two_at}
+use Rattle.c_lex.proofs.LongestPiece.{map_none, piece_block, piece_line, piece_mark, piece_nil, piece_run, piece_white, two_at}
 use Rattle.c_lex.proofs.MarkTable.{begins-more}
 
 -- ---- rows of a table

@@ -2,7 +2,7 @@ pub mod Tables
 pub mod Numbers
 pub mod NameLemmas
 pub mod MarkTable
-pub mod Front
+pub mod LongestPiece
 pub mod Steps
 pub mod Unique
 pub mod Rules

@@ -16,8 +16,9 @@ use Rattle.c_lex.specs.OneMeaning.{SomeMeaning}
 use Rattle.c_lex.specs.tools.Reading.{names_with, IsRead}
 use Rattle.c_lex.specs.tools.Scanning.{piece_at}
 use Rattle.c_lex.specs.Tokens.{IsKind}
-use Rattle.c_lex.proofs.Front.{IsRight, piece_right}
+use Rattle.c_lex.proofs.LongestPiece.{IsRight, piece_right}
 use Rattle.c_lex.proofs.Steps.{lexes_all, none_placed, piece_long, piece_placed, read_gap, read_none, read_token, tells_byte, tells_many, tells_piece, token_at}
+use Rattle.dfi_base.specs.Limits.{token_limit}
 
 -- ---- a name has a number
 
@@ -59,7 +60,7 @@ module _ (bytes : List ℕ) where
 
   -- one token more, or one too many
   token_on : (at end : ℕ) (piece : Piece) → Reached at → IsPiece bytes at end piece → IsTrue (is_token piece) → (Reached end → SomeMeaning bytes) → SomeMeaning bytes
-  token_on at end piece r p token later = elim (cases_lt (length r.0) 200000) [
+  token_on at end piece r p token later = elim (cases_lt (length r.0) token_limit) [
     | inl room ↦
         let k = kind_for r.1 (slice_range bytes at end) piece token in
         later (

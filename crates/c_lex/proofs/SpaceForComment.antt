@@ -22,11 +22,12 @@ use Rattle.c_lex.specs.PieceOf.{piece_of}
 use Rattle.c_lex.specs.Tokens.{IsGap, IsKind, IsToken, Tokens}
 use Rattle.c_lex.specs.Tokens.IsGap.{none, more}
 use Rattle.c_lex.proofs.Closed.{closed, no_empty, spaced}
-use Rattle.c_lex.proofs.Front.{IsFront, white_right}
+use Rattle.c_lex.proofs.LongestPiece.{IsFront, white_right}
 use Rattle.c_lex.proofs.Rules.{gap_forward}
 use Rattle.c_lex.proofs.Steps.{piece_long, piece_placed, texts_append, tokens_gap}
 use Rattle.c_lex.proofs.Unique.{alike_long, ends_there, faulty, many_at, meet, one_end, one_piece, Reading, reading_whole, seen, sight, Stop, stop_none, stop_of, stop_piece}
 use Rattle.c_lex.proofs.Unique.Stop.{fault, on, whole as whole_stop}
+use Rattle.dfi_base.specs.Limits.{token_limit}
 
 -- ---- no longer front is a piece
 
@@ -315,7 +316,7 @@ module _ (bytes : List ℕ) (start end : ℕ) (slash : slice_get bytes start ≡
       )
 
   -- a fault behind the comment stands behind the space
-  before_anew : IsSound bytes start → (count at : ℕ) (f : LexFault) → count ≤ 200000 → TokensBefore bytes count at → stop_of bytes count at (sight bytes at) ≡ fault f → (end ≤ at) × TokensBefore new count (moved at)
+  before_anew : IsSound bytes start → (count at : ℕ) (f : LexFault) → count ≤ token_limit → TokensBefore bytes count at → stop_of bytes count at (sight bytes at) ≡ fault f → (end ≤ at) × TokensBefore new count (moved at)
   before_anew sound count at f few b stops =
       let p = parted sound (fault f) (faulty bytes count at f few b stops) (λ e. cc) in (
         tokens_forward bytes b.names end p.rest at p.behind,
@@ -350,7 +351,7 @@ module _ (bytes : List ℕ) (start end : ℕ) (slash : slice_get bytes start ≡
       let b = before_anew sound h.0.0 at _ h.0.1 h.0.2 (stop_piece bytes h.0.0 at OpenComment _ h.1 refl) in
       (moved at, ((h.0.0, h.0.1, b.1), piece_behind at OpenComment h.1 b.0))
   fault_anew sound (faults.TooMany at) h =
-      let b = before_anew sound 200000 at _ (omega arith) h.0 (stop_piece bytes 200000 at h.1.0 _ h.1.2 (many_at at h.1.0 h.1.1)) in
+      let b = before_anew sound token_limit at _ (omega arith) h.0 (stop_piece bytes token_limit at h.1.0 _ h.1.2 (many_at at h.1.0 h.1.1)) in
       (moved at, (b.1, (h.1.0, h.1.1, piece_behind at h.1.0 h.1.2 b.0)))
   fault_anew sound faults.Memory h = absurd h
 

@@ -23,7 +23,8 @@ use Rattle.c_lex.specs.tools.Reading.{fault_of, is_gap, names_with, IsAdded, IsR
 use Rattle.c_lex.specs.tools.Scanning.{piece_at}
 use Rattle.c_lex.specs.Tokens.{IsGap, IsKind, IsToken, Tokens}
 use Rattle.c_lex.specs.Tokens.IsGap.{none, more}
-use Rattle.c_lex.proofs.Front.{IsFront, IsRight, piece_nil, piece_right}
+use Rattle.c_lex.proofs.LongestPiece.{IsFront, IsRight, piece_nil, piece_right}
+use Rattle.dfi_base.specs.Limits.{token_limit}
 
 -- ---- a piece at its place
 
@@ -166,7 +167,7 @@ read_gap bytes ts names line at end r p =
 abbrev pub token_at : Kind → ℕ → ℕ → ℕ → Token
 token_at kind start end line = record { kind = kind; start = start; end = end; line = record { 0 = line } }
 
-pub read_token : (bytes : List ℕ) (ts : List Token) (names : List (List ℕ)) (line at end : ℕ) (piece : Piece) (kind : Kind) → IsRead bytes ts names line at → IsPiece bytes at end piece → length ts < 200000
+pub read_token : (bytes : List ℕ) (ts : List Token) (names : List (List ℕ)) (line at end : ℕ) (piece : Piece) (kind : Kind) → IsRead bytes ts names line at → IsPiece bytes at end piece → length ts < token_limit
     → IsKind (names_with names (slice_range bytes at end) piece) (slice_range bytes at end) piece kind
     → IsRead bytes (ts ++ token_at kind at end line ∷ []) (names_with names (slice_range bytes at end) piece) (line + newlines (slice_range bytes at end)) end
 read_token bytes ts names line at end piece kind r p room is =
@@ -199,7 +200,7 @@ tells_piece bytes ts names line at end BadNumber fault r p e = subst (Tells byte
 tells_piece bytes ts names line at end BigNumber fault r p e = subst (Tells bytes) (same_Some _ _ e) (sound bytes ts names line at r, (end, p))
 tells_piece bytes ts names line at end OpenComment fault r p e = subst (Tells bytes) (same_Some _ _ e) (sound bytes ts names line at r, (end, p))
 
-pub tells_many : (bytes : List ℕ) (ts : List Token) (names : List (List ℕ)) (line at end : ℕ) (piece : Piece) → IsRead bytes ts names line at → IsPiece bytes at end piece → IsTrue (is_token piece) → length ts ≡ 200000 → Tells bytes (faults.TooMany at)
+pub tells_many : (bytes : List ℕ) (ts : List Token) (names : List (List ℕ)) (line at end : ℕ) (piece : Piece) → IsRead bytes ts names line at → IsPiece bytes at end piece → IsTrue (is_token piece) → length ts ≡ token_limit → Tells bytes (faults.TooMany at)
 tells_many bytes ts names line at end piece r p token full = (record { names = names; tokens = ts; stand = r.stand; count_is = full }, (piece, token, (end, p)))
 
 -- ---- how many names there are
@@ -220,7 +221,7 @@ length_texts : (bytes : List ℕ) (ts : List Token) → length (name_texts bytes
 length_texts bytes [] = omega arith
 length_texts bytes (t ∷ ts) = omega (arith, length_texts bytes ts, length_option (if_name t.kind (slice_range bytes t.start t.end)) (name_texts bytes ts))
 
-pub names_few : (bytes : List ℕ) (ts : List Token) (names : List (List ℕ)) (line at : ℕ) → IsRead bytes ts names line at → length names ≤ 200000
+pub names_few : (bytes : List ℕ) (ts : List Token) (names : List (List ℕ)) (line at : ℕ) → IsRead bytes ts names line at → length names ≤ token_limit
 names_few bytes ts names line at r = omega (arith, ap length r.named, length_once (name_texts bytes ts) [], length_texts bytes ts, r.few)
 
 -- ---- what the code calls them by

@@ -19,8 +19,9 @@ use Rattle.c_lex.specs.PieceOf.{piece_of}
 use Rattle.c_lex.specs.tools.Scanning.{piece_at}
 use Rattle.c_lex.specs.Tokens.{IsGap, IsKind, IsToken, Tokens}
 use Rattle.c_lex.specs.Tokens.IsGap.{none, more}
-use Rattle.c_lex.proofs.Front.{IsRight, no_piece, piece_right}
+use Rattle.c_lex.proofs.LongestPiece.{IsRight, no_piece, piece_right}
 use Rattle.c_lex.proofs.Steps.{none_placed, piece_long, piece_placed}
+use Rattle.dfi_base.specs.Limits.{token_limit}
 
 -- ---- one piece at a place
 
@@ -76,10 +77,10 @@ ended bytes = ended_by bytes (drop (length bytes) bytes) (let rest : length (dro
 -- the fault of a piece at a place behind so many tokens, none where the reading goes on
 abbrev pub fault_at : ℕ → ℕ → Piece → Option LexFault
 fault_at count at Gap = None
-fault_at count at (Word w) = cond (eqb count 200000) (Some (faults.TooMany at)) None
-fault_at count at Name = cond (eqb count 200000) (Some (faults.TooMany at)) None
-fault_at count at (Number n) = cond (eqb count 200000) (Some (faults.TooMany at)) None
-fault_at count at (Mark m) = cond (eqb count 200000) (Some (faults.TooMany at)) None
+fault_at count at (Word w) = cond (eqb count token_limit) (Some (faults.TooMany at)) None
+fault_at count at Name = cond (eqb count token_limit) (Some (faults.TooMany at)) None
+fault_at count at (Number n) = cond (eqb count token_limit) (Some (faults.TooMany at)) None
+fault_at count at (Mark m) = cond (eqb count token_limit) (Some (faults.TooMany at)) None
 fault_at count at BadNumber = Some (faults.BadNumber at)
 fault_at count at BigNumber = Some (faults.BigNumber at)
 fault_at count at OpenComment = Some (faults.OpenComment at)
@@ -104,10 +105,10 @@ pub record Reading (bytes : List ℕ) (stop : Stop) : Type 0 where
   pub tokens : List Token
   pub at : ℕ
   pub stand : Tokens bytes names 0 tokens at
-  pub few : length tokens ≤ 200000
+  pub few : length tokens ≤ token_limit
   pub stops : stop_of bytes (length tokens) at (sight bytes at) ≡ stop
 
-pub many_at : (at : ℕ) (piece : Piece) → IsTrue (is_token piece) → fault_at 200000 at piece ≡ Some (faults.TooMany at)
+pub many_at : (at : ℕ) (piece : Piece) → IsTrue (is_token piece) → fault_at token_limit at piece ≡ Some (faults.TooMany at)
 many_at at Gap t = absurd cc
 many_at at (Word w) t = refl
 many_at at Name t = refl
@@ -117,12 +118,12 @@ many_at at BadNumber t = absurd cc
 many_at at BigNumber t = absurd cc
 many_at at OpenComment t = absurd cc
 
-token_on : (count at : ℕ) (piece : Piece) → IsTrue (is_token piece) → count < 200000 → stop_by (fault_at count at piece) ≡ on
+token_on : (count at : ℕ) (piece : Piece) → IsTrue (is_token piece) → count < token_limit → stop_by (fault_at count at piece) ≡ on
 token_on count at Gap t few = refl
-token_on count at (Word w) t few = let apart : eqb count 200000 ≡ false = ne_eqb _ _ (λ e. omega arith) in rw apart refl
-token_on count at Name t few = let apart : eqb count 200000 ≡ false = ne_eqb _ _ (λ e. omega arith) in rw apart refl
-token_on count at (Number n) t few = let apart : eqb count 200000 ≡ false = ne_eqb _ _ (λ e. omega arith) in rw apart refl
-token_on count at (Mark m) t few = let apart : eqb count 200000 ≡ false = ne_eqb _ _ (λ e. omega arith) in rw apart refl
+token_on count at (Word w) t few = let apart : eqb count token_limit ≡ false = ne_eqb _ _ (λ e. omega arith) in rw apart refl
+token_on count at Name t few = let apart : eqb count token_limit ≡ false = ne_eqb _ _ (λ e. omega arith) in rw apart refl
+token_on count at (Number n) t few = let apart : eqb count token_limit ≡ false = ne_eqb _ _ (λ e. omega arith) in rw apart refl
+token_on count at (Mark m) t few = let apart : eqb count token_limit ≡ false = ne_eqb _ _ (λ e. omega arith) in rw apart refl
 token_on count at BadNumber t few = absurd cc
 token_on count at BigNumber t few = absurd cc
 token_on count at OpenComment t few = absurd cc
@@ -130,7 +131,7 @@ token_on count at OpenComment t few = absurd cc
 pub stop_piece : (bytes : List ℕ) (count at : ℕ) (piece : Piece) (f : LexFault) → StandsAt bytes at piece → fault_at count at piece ≡ Some f → stop_of bytes count at (sight bytes at) ≡ fault f
 stop_piece bytes count at piece f b e = ap (stop_of bytes count at) (seen bytes at piece b) ∙ ap stop_by e
 
-abbrev pub faulty : (bytes : List ℕ) (count at : ℕ) (f : LexFault) → count ≤ 200000 → (r : TokensBefore bytes count at) → stop_of bytes count at (sight bytes at) ≡ fault f → Reading bytes (fault f)
+abbrev pub faulty : (bytes : List ℕ) (count at : ℕ) (f : LexFault) → count ≤ token_limit → (r : TokensBefore bytes count at) → stop_of bytes count at (sight bytes at) ≡ fault f → Reading bytes (fault f)
 faulty bytes count at f few r e =
     record { names = r.names; tokens = r.tokens; at = at; stand = r.stand; few = omega (arith, r.count_is); stops = ap (λ n. stop_of bytes n at (sight bytes at)) r.count_is ∙ e }
 
@@ -145,7 +146,7 @@ reading_fault bytes (faults.BadByte at) h =
 reading_fault bytes (faults.BadNumber at) h = faulty bytes h.0.0 at _ h.0.1 h.0.2 (stop_piece bytes h.0.0 at BadNumber _ h.1 refl)
 reading_fault bytes (faults.BigNumber at) h = faulty bytes h.0.0 at _ h.0.1 h.0.2 (stop_piece bytes h.0.0 at BigNumber _ h.1 refl)
 reading_fault bytes (faults.OpenComment at) h = faulty bytes h.0.0 at _ h.0.1 h.0.2 (stop_piece bytes h.0.0 at OpenComment _ h.1 refl)
-reading_fault bytes (faults.TooMany at) h = faulty bytes 200000 at _ (omega arith) h.0 (stop_piece bytes 200000 at h.1.0 _ h.1.2 (many_at at h.1.0 h.1.1))
+reading_fault bytes (faults.TooMany at) h = faulty bytes token_limit at _ (omega arith) h.0 (stop_piece bytes token_limit at h.1.0 _ h.1.2 (many_at at h.1.0 h.1.1))
 reading_fault bytes faults.Memory h = absurd h
 
 abbrev pub reading_whole : (bytes : List ℕ) (l : Lexed) → LexesTo bytes l → Reading bytes whole
@@ -276,7 +277,7 @@ gap_on : {bytes : List ℕ} {b c : ℕ} (count : ℕ) → IsGap bytes b c → (s
 gap_on count (none at) stops = refl
 gap_on {bytes} count (more start end to p g) stops = absurd (stops (ap (stop_of bytes count start) (seen bytes start Gap (end, p))))
 
-token_stays : (bytes : List ℕ) (ms : List (List ℕ)) (count b : ℕ) (u : Token) → IsGap bytes b u.start → IsToken bytes ms u → count < 200000 → (stop_of bytes count b (sight bytes b) ≡ on → ⊥) → ⊥
+token_stays : (bytes : List ℕ) (ms : List (List ℕ)) (count b : ℕ) (u : Token) → IsGap bytes b u.start → IsToken bytes ms u → count < token_limit → (stop_of bytes count b (sight bytes b) ≡ on → ⊥) → ⊥
 token_stays bytes ms count b u g h few stops =
     let one = is_one bytes ms u h in
     let same = gap_on count g stops in
@@ -284,7 +285,7 @@ token_stays bytes ms count b u g h few stops =
     stops (ap (stop_of bytes count b) (seen bytes b one.0 begins) ∙ token_on count b one.0 one.1 few)
 
 -- nothing is ahead of a stop
-pub ends_there : (bytes : List ℕ) (ms : List (List ℕ)) (count b : ℕ) (rest : List Token) (c : ℕ) → Tokens bytes ms b rest c → count + length rest ≤ 200000 → (stop_of bytes count b (sight bytes b) ≡ on → ⊥) → (b ≡ c) × (rest ≡ [])
+pub ends_there : (bytes : List ℕ) (ms : List (List ℕ)) (count b : ℕ) (rest : List Token) (c : ℕ) → Tokens bytes ms b rest c → count + length rest ≤ token_limit → (stop_of bytes count b (sight bytes b) ≡ on → ⊥) → (b ≡ c) × (rest ≡ [])
 ends_there bytes ms count b [] c h few stops = (gap_on count h stops, refl)
 ends_there bytes ms count b (u ∷ us) c h few stops = absurd (token_stays bytes ms count b u h.0 h.1 (omega arith) stops)
 

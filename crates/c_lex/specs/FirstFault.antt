@@ -9,6 +9,7 @@ use Rattle.c_lex.specs.declared.token.Token.{Token}
 use Rattle.c_lex.specs.IsLexed.{Lexed, LexesTo}
 use Rattle.c_lex.specs.IsPiece.{StandsAt, NoPiece}
 use Rattle.c_lex.specs.Tokens.{Tokens}
+use Rattle.dfi_base.specs.Limits.{token_limit}
 
 -- before this place the bytes are so many tokens, with white space and comments
 pub record TokensBefore (bytes : List ℕ) (count at : ℕ) : Type 0 where
@@ -19,7 +20,7 @@ pub record TokensBefore (bytes : List ℕ) (count at : ℕ) : Type 0 where
 
 -- the same, of a number of tokens within the limit
 abbrev pub IsSound : List ℕ → ℕ → Type 0
-IsSound bytes at = (count : ℕ) × (count ≤ 200000) × TokensBefore bytes count at
+IsSound bytes at = (count : ℕ) × (count ≤ token_limit) × TokensBefore bytes count at
 
 -- a token of any kind
 abbrev pub is_token : Piece → Bool
@@ -32,14 +33,14 @@ is_token BadNumber = false
 is_token BigNumber = false
 is_token OpenComment = false
 
--- Before the place of the fault all is sound, and at it the fault stands. A token behind 200,000 others is one too many; what is no
+-- Before the place of the fault all is sound, and at it the fault stands. A token behind as many as there may be is one too many; what is no
 -- token at that place is its own fault.
 abbrev pub IsFirstFault : List ℕ → LexFault → Type 0
 IsFirstFault bytes (faults.BadByte at) = IsSound bytes at × NoPiece bytes at
 IsFirstFault bytes (faults.BadNumber at) = IsSound bytes at × StandsAt bytes at BadNumber
 IsFirstFault bytes (faults.BigNumber at) = IsSound bytes at × StandsAt bytes at BigNumber
 IsFirstFault bytes (faults.OpenComment at) = IsSound bytes at × StandsAt bytes at OpenComment
-IsFirstFault bytes (faults.TooMany at) = TokensBefore bytes 200000 at × ((piece : Piece) × IsTrue (is_token piece) × StandsAt bytes at piece)
+IsFirstFault bytes (faults.TooMany at) = TokensBefore bytes token_limit at × ((piece : Piece) × IsTrue (is_token piece) × StandsAt bytes at piece)
 IsFirstFault bytes faults.Memory = ⊥
 
 -- the bytes mean this: their tokens, or the first fault

@@ -8,6 +8,7 @@ use Rattle.c_lex.specs.declared.token.Token.{Token}
 use Rattle.c_lex.specs.Bytes.{line_at}
 use Rattle.c_lex.specs.Names.{each_once, name_texts}
 use Rattle.c_lex.specs.Tokens.{Tokens}
+use Rattle.dfi_base.specs.Limits.{token_limit}
 
 -- tokens, names by their numbers, and the line of the last byte
 pub record Lexed : Type 0 where
@@ -15,13 +16,13 @@ pub record Lexed : Type 0 where
   pub names : List (List ℕ)
   pub last : Line
 
--- The bytes have these tokens, at most 200,000, and these names in the order in which they are first seen. The last line is that of
+-- The bytes have these tokens, no more than the limit, and these names in the order in which they are first seen. The last line is that of
 -- the last byte, and 1 where there is none.
 pub record LexesTo (bytes : List ℕ) (l : Lexed) : Type 0 where
   pub tokens : Tokens bytes l.names 0 l.tokens (length bytes)
   pub names : l.names ≡ each_once (name_texts bytes l.tokens)
   pub last : l.last.0 ≡ line_at bytes (length bytes - 1)
-  pub few : length l.tokens ≤ 200000
+  pub few : length l.tokens ≤ token_limit
 
 -- ---- what follows for the tokens, for a reader who has no bytes
 
@@ -59,7 +60,7 @@ pub record IsLexed (l : Lexed) : Type 0 where
   pub bytes : List ℕ
   pub range : (i : ℕ) → slice_index bytes i < 2 ^ 8
   pub source : LexesTo bytes l
-  pub few : length l.tokens ≤ 200000
+  pub few : length l.tokens ≤ token_limit
   pub numbered : AllByRecursion (λ t. IsNumbered (length l.names) t.kind) l.tokens
   pub numbers : AllByRecursion (λ t. IsNotNegative t.kind) l.tokens
   pub differ : NamesDiffer l.names

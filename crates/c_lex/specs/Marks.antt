@@ -1,8 +1,13 @@
 -- Punctuators (C99 6.4.6), and the bytes that spell them.
-use Rattle.std.specs.Prelude.{ℕ, List, [], ◌∷◌, Option, bytes_eq, codes}
+use Rattle.std.specs.Prelude.{ℕ, Bool, List, [], ◌∷◌, Option, bytes_eq, codes}
+use denote.Enum.Bare.{sameb}
 use Rattle.c_lex.specs.declared.token.Mark.{Mark}
 use Rattle.c_lex.specs.declared.token.Mark.TheVariants as marks
-use Rattle.c_lex.specs.Words.{look_up}
+use Rattle.c_lex.specs.contracts.token.Mark as mark_type
+use Rattle.c_lex.specs.Words.{found_text, look_up}
+
+abbrev pub same_mark : Mark → Mark → Bool
+same_mark = sameb mark_type.the_type
 
 -- the marks; that longer ones come first is of use to who looks for one at the front of bytes
 unfoldable pub spellings : List (List ℕ × Mark)
@@ -23,3 +28,7 @@ spellings =
 -- the mark that the text spells, if any
 unfoldable pub mark_of : List ℕ → Option Mark
 mark_of text = look_up (λ row. bytes_eq text row.0) (λ row. row.1) spellings
+
+-- how the mark is written: the text beside it
+unfoldable pub mark_text : Mark → List ℕ
+mark_text mark = found_text (look_up (λ row. same_mark row.1 mark) (λ row. row.0) spellings)

@@ -1,12 +1,22 @@
 -- Reserved words (C99 6.4.1, and two of this profile), and the words that spell them.
 use Rattle.std.specs.Prelude.{ℕ, Bool, List, [], ◌∷◌, Option, Some, None, bytes_eq, codes, if◌then◌else◌}
+use denote.Enum.Bare.{sameb}
 use Rattle.c_lex.specs.declared.token.Word.{Word}
+use Rattle.c_lex.specs.contracts.token.Word as word_type
 use Rattle.c_lex.specs.declared.token.Word.TheVariants.{Int, Void, Struct, If, Else, While, For, Return, Break, Continue, Par, Sizeof, Null, Unused}
 
 -- what f gives of the first row of a table that passes the test
 abbrev pub look_up : {A B : Type 0} → (A → Bool) → (A → B) → List A → Option B
 look_up test f [] = None
 look_up test f (row ∷ rows) = if test row then Some (f row) else look_up test f rows
+
+-- a text that was found, and no byte where there is none
+abbrev pub found_text : Option (List ℕ) → List ℕ
+found_text None = []
+found_text (Some text) = text
+
+abbrev pub same_word : Word → Word → Bool
+same_word = sameb word_type.the_type
 
 -- the words that the grammar uses, and every other keyword
 unfoldable pub words : List (List ℕ × Word)
@@ -25,3 +35,7 @@ words =
 -- the reserved word that the text spells, if any
 unfoldable pub word_of : List ℕ → Option Word
 word_of text = look_up (λ row. bytes_eq text row.0) (λ row. row.1) words
+
+-- How the word is written: the first text beside it. A word with no use has many, and no tree has it.
+unfoldable pub word_text : Word → List ℕ
+word_text word = found_text (look_up (λ row. same_word row.1 word) (λ row. row.0) words)

@@ -12,7 +12,7 @@ pub fn line_comment_length(bytes: &[u8]) -> usize
 }
 
 /// How many bytes come before the end of the first `*/`.
-#[tactic(auto, unfolding(crate::specs::Scanning::close_at))]
+#[tactic(auto, unfolding(crate::specs::tools::Scanning::close_at))]
 fn close_at(bytes: &[u8]) -> Option<usize>
     ensures place { result ≡ close_at bytes.now }
     ensures within { IfSome result (λ n. n ≤ length bytes.now) }
@@ -30,7 +30,7 @@ fn close_at(bytes: &[u8]) -> Option<usize>
 }
 
 /// The comment that the bytes begin with by `/*`, and its length.
-#[tactic(auto, unfolding(crate::specs::Scanning::block_comment))]
+#[tactic(auto, unfolding(crate::specs::tools::Scanning::block_comment))]
 pub fn block_comment(bytes: &[u8]) -> (usize, Piece)
     requires { 2 ≤ length bytes.now }
     ensures { result ≡ block_comment bytes.now }

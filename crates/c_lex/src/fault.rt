@@ -20,7 +20,7 @@ pub enum LexFault {
     /// A `/*` with no `*/` behind it.
     #[error("an open comment at {at}")]
     OpenComment { at: u32 },
-    /// Token 200,001.
+    /// The token behind as many as there may be.
     #[error("a token too many at {at}")]
     TooMany { at: u32 },
     /// Memory was wanted, and there was none.

@@ -1,4 +1,5 @@
 ghost use Rattle.std.specs.Prelude.{◌≡◌, ◌-◌, ◌≤◌, ◌<◌, ◌+◌, ◌^◌, length, IfErr, IfOk, IfSome, IsTrue, MatchOption, OnOk};
+ghost use Rattle.dfi_base.specs.Limits.{token_limit};
 ghost use Rattle.c_lex.specs.Bytes.{line_at, newlines};
 ghost use Rattle.c_lex.specs.FirstFault.{is_token, GivesMeaning, Tells};
 ghost use Rattle.c_lex.specs.IsLexed.{LexesTo};
@@ -12,12 +13,10 @@ use crate::names::Names;
 use crate::piece::Piece;
 use crate::scan::piece_at;
 use crate::token::{Kind, Token};
+use dfi_base::limits::TOKEN_LIMIT;
 use dfi_base::{Line, Memory};
 use sqlite_items::Items;
 use std::alloc::Global;
-
-/// The greatest number of tokens.
-const MOST_TOKENS: usize = 200_000;
 
 /// How many newlines a text has: a line's number is one more than those before it.
 pub fn newlines(text: &[u8]) -> usize
@@ -85,14 +84,14 @@ impl<'a> Found<'a> {
     fn add_token(&mut self, text: &'a [u8], piece: Piece, start: u32) -> Result<(), LexFault>
         requires token { IsTrue (is_token piece) }
         requires few { length self.old.names < 2 ^ 31 }
-        requires limit { length self.old.tokens ≤ 200000 }
+        requires limit { length self.old.tokens ≤ token_limit }
         requires fits { start + length text.now < 2 ^ 32 }
         ensures added { OnOk result (IsAdded self.old.tokens text.now piece start self.old.line self.new.tokens self.new.names) }
         ensures names { OnOk result (self.new.names ≡ names_with self.old.names text.now piece) }
         ensures line { self.new.line ≡ self.old.line }
         ensures fault { IfErr result (λ fault. Overflows (length self.old.tokens) start fault) }
     {
-        if self.tokens.len() == MOST_TOKENS {
+        if self.tokens.len() == TOKEN_LIMIT as usize {
             return Err(LexFault::TooMany { at: start });
         }
         let kind = kind_of(&mut self.names, text, piece)?;

@@ -18,4 +18,6 @@ pub use fault::LexFault;
 pub use law::{comment_is_space, one_meaning};
 pub use lexed::Lexed;
 pub use lexer::{lex, newlines};
+pub use mark::mark_text;
 pub use token::{Kind, Mark, Token, Word};
+pub use word::word_text;

@@ -1,11 +1,12 @@
 ghost use Rattle.std.specs.Prelude.{◌≡◌, length, nat_eq};
 ghost use Rattle.std.specs.List.{starts_with};
-ghost use Rattle.c_lex.specs.Words.{look_up};
+ghost use Rattle.c_lex.specs.Marks.{mark_text, same_mark};
+ghost use Rattle.c_lex.specs.Words.{found_text, look_up};
 ghost use Rattle.c_lex.specs.tools.Scanning.{mark_at};
 
 use crate::token::Mark;
 
-/// The marks, longer ones first.
+/// The marks and how they are written, longer ones first.
 const MARKS: [(&str, Mark); 43] = [
     ("<<=", Mark::ShiftLeftAssign),
     (">>=", Mark::ShiftRightAssign),
@@ -65,9 +66,29 @@ fn first_of(table: &[(&str, Mark)], bytes: &[u8]) -> Option<(usize, Mark)>
 }
 
 /// The longest mark that the bytes begin with, and its length.
-#[tactic(auto, unfolding(crate::specs::Scanning::mark_at, crate::specs::Marks::spellings))]
+#[tactic(auto, unfolding(crate::specs::tools::Scanning::mark_at, crate::specs::Marks::spellings))]
 pub fn mark_at(bytes: &[u8]) -> Option<(usize, Mark)>
     ensures { result ≡ mark_at bytes.now }
 {
     first_of(&MARKS, bytes)
+}
+
+/// The text beside a mark in a table.
+fn text_beside(table: &[(&'static str, Mark)], mark: Mark) -> &'static str
+    ensures { result.now ≡ found_text (look_up (λ row. same_mark row.1 mark) (λ row. row.0.now) table.now) }
+{
+    for row in table {
+        if row.1 == mark {
+            return row.0;
+        }
+    }
+    ""
+}
+
+/// How a mark is written.
+#[tactic(auto, unfolding(crate::specs::Marks::mark_text, crate::specs::Marks::spellings))]
+pub fn mark_text(mark: Mark) -> &'static str
+    ensures { result.now ≡ mark_text mark }
+{
+    text_beside(&MARKS, mark)
 }

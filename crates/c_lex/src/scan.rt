@@ -48,7 +48,7 @@ fn run_piece(run: &[u8]) -> Piece
 }
 
 /// The piece that the bytes begin with, and its length.
-#[tactic(auto, unfolding(crate::specs::Scanning::piece_at))]
+#[tactic(auto, unfolding(crate::specs::tools::Scanning::piece_at))]
 pub fn piece_at(bytes: &[u8]) -> Option<(usize, Piece)>
     ensures { result ≡ piece_at bytes.now }
 {

@@ -1,5 +1,5 @@
 ghost use Rattle.std.specs.Prelude.{◌≡◌, bytes_eq};
-ghost use Rattle.c_lex.specs.Words.{look_up, word_of};
+ghost use Rattle.c_lex.specs.Words.{found_text, look_up, same_word, word_of, word_text};
 
 use crate::token::Word;
 
@@ -64,4 +64,24 @@ pub fn word_of(text: &[u8]) -> Option<Word>
     ensures { result ≡ word_of text.now }
 {
     beside(&WORDS, text)
+}
+
+/// The first text beside a word in a table.
+fn text_beside(table: &[(&'static str, Word)], word: Word) -> &'static str
+    ensures { result.now ≡ found_text (look_up (λ row. same_word row.1 word) (λ row. row.0.now) table.now) }
+{
+    for row in table {
+        if row.1 == word {
+            return row.0;
+        }
+    }
+    ""
+}
+
+/// How a reserved word is written. One with no use has many spellings, of which this is one.
+#[tactic(auto, unfolding(crate::specs::Words::word_text, crate::specs::Words::words))]
+pub fn word_text(word: Word) -> &'static str
+    ensures { result.now ≡ word_text word }
+{
+    text_beside(&WORDS, word)
 }

@@ -16,6 +16,7 @@ use Rattle.c_parse.specs.Symbol.{Symbol, Symbols, symbols_of}
 use Rattle.c_parse.specs.Programs.{DeclaratorsAt, FieldAt, FieldsAt, ItemAt, ProgramAt}
 use Rattle.c_parse.specs.Parsed.{IsProgram}
 use Rattle.c_parse.proofs.Leaves.{leaf_of, leaves, program_leaves}
+use Rattle.dfi_base.specs.Limits.{token_limit}
 
 natural : (k : ℤ) → pos 0 ≤ℤ k → (n : ℕ) × (k ≡ pos n)
 natural (pos n) h = (n, refl)
@@ -77,6 +78,6 @@ built l items h d =
     record {
       names_differ = λ i j n f g. one_number l.names n i j h.differ f g;
       written = subst (All (IsWritten (length l.names))) e (written (length l.names) l.tokens h.numbered h.numbers);
-      few = subst (λ w. length w ≤ 200000) e (let g = few l.tokens in let k = h.few in omega arith);
+      few = subst (λ w. length w ≤ token_limit) e (let g = few l.tokens in let k = h.few in omega arith);
       fields = fields Anywhere d.derived;
     }

@@ -8,7 +8,7 @@ use Rattle.c_parse.specs.tools.Tokens.{P, next, kind_of}
 use Rattle.c_parse.specs.tools.Sorts.{is_operand, is_stmt}
 use Rattle.c_parse.specs.tools.ExprParser.{entering, unary_of, operand, subject}
 use Rattle.c_parse.specs.tools.StmtParser.{statement, stmt}
-use Rattle.c_parse.specs.NestingLimit.{nesting_limit}
+use Rattle.dfi_base.specs.Limits.{nesting_limit}
 
 below : (m n : ℕ) → m < n → nat_lt m n ≡ true
 below m n l = by_test (nat_lt m n) refl

@@ -35,9 +35,6 @@ by_roll : (x : Form-F Form Expr) → of_form (roll-Form x) ≡ expr_step (mapped
 unfolding of_form of_expr
 by_roll x = fold-roll-Form Leaves Leaves expr_step (λ y. y.form) x
 
-pub of_paren : (l : Line) (a : Expr) → of_expr (e.Paren l a) ≡ of_expr a
-of_paren l a = expr_is (e.Paren l a) ∙ sym (expr_is a)
-
 pub of_binary : (l : Line) (a : Expr) (op : BinaryOp) (b : Expr) → of_expr (e.Binary l a op b) ≡ of_expr a ++ of_expr b
 of_binary l a op b = expr_is (e.Binary l a op b) ∙ (ap of_form (sym (f.rolls-Binary a op b)) ∙ by_roll (Form-F.Binary a op b))
 

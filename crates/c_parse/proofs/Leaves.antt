@@ -162,7 +162,7 @@ module _ (may : May Symbol) where
     primary (x.PrimaryAt.null {l} {rest}) = restated [] _ (leaves rest) (step.of_null l) refl
     primary (x.PrimaryAt.variable {n} {l} {rest}) = restated (name n ∷ []) _ (leaves rest) (step.of_name (record { line = l; name = n })) refl
     primary (x.PrimaryAt.called {f} {args} {rest} d) = restated (of_ident f ++ of_all of_expr args) _ (leaves rest) (step.of_call f args) (call d)
-    primary (x.PrimaryAt.paren {l} {rest} {a} d) = restated (of_expr a) _ (leaves rest) (step.of_paren l a) (expr d)
+    primary (x.PrimaryAt.paren d) = expr d
     primary (x.PrimaryAt.sizeof {l} {t = n} {rest} d) = restated (of_type n) _ (leaves rest) (step.of_sizeof l n) (type_name d)
 
     call : {c : ℕ} {ts r : Symbols} {f : Ident} {args : List Expr} → x.CallAt may c ts f args r → leaves ts ≡ (of_ident f ++ of_all of_expr args) ++ leaves r

@@ -20,7 +20,7 @@ pub mod ProgramForms
 pub mod ProgramLaws
 pub mod Knots
 pub mod Rows
-pub mod Told
+pub mod CodeAnswers
 pub mod LeafSteps
 pub mod Leaves
 pub mod Built

@@ -15,7 +15,7 @@ use Rattle.parse_law.specs.Nesting.{Anywhere}
 use Rattle.parse_law.specs.FirstFault.{Continues}
 use Rattle.parse_law.specs.Tells.{HasOneAnswer}
 use Rattle.parse_law.proofs.Verdicts.{continues_prefix}
-use Rattle.parse_law.proofs.One.{Bounded, one_tree, one_answer}
+use Rattle.parse_law.proofs.OneAnswer.{Bounded, one_tree, one_answer}
 use Rattle.c_parse.specs.declared.operators.Tier.{Tier}
 use Rattle.c_parse.specs.Symbol.{Symbols}
 use Rattle.c_parse.specs.Exprs as x
@@ -24,7 +24,7 @@ use Rattle.c_parse.specs.Programs as p
 use Rattle.c_parse.specs.Programs.{ProgramAt}
 use Rattle.c_parse.specs.tools.ProgramParser as spec
 use Rattle.c_parse.proofs.ProgramLaws.{program_law, program_tells}
-use Rattle.c_parse.specs.NestingLimit.{nesting_limit}
+use Rattle.dfi_base.specs.Limits.{nesting_limit}
 
 mutual
   expr : {c : ℕ} {ts r : Symbols} {a : Expr} → x.ExprAt Anywhere c ts a r → Bounded (λ M. x.ExprAt M c ts a r)

@@ -14,7 +14,7 @@ use Rattle.parse_law.specs.Nesting.{May}
 use Rattle.parse_law.proofs.Forms.{Form, Follow, Fits}
 use Rattle.parse_law.proofs.Bind.{Seq}
 use Rattle.parse_law.proofs.Steps.{none_some, false_true}
-use Rattle.parse_law.proofs.Heads.{done_fault}
+use Rattle.parse_law.proofs.FirstTokens.{done_fault}
 use Rattle.parse_law.proofs.Repeat.{Takes, takes_rising}
 use Rattle.c_parse.specs.declared.subject.Subject.{Subject}
 use Rattle.c_parse.specs.declared.sorts.OperandStart.{OperandStart}
@@ -183,7 +183,7 @@ pub data SubjectAt (M : May Symbol) (l : Line) (c : ℕ) : Symbols → Subject �
   converted : {p q : Line} {t : TypeName} {ts m r : Symbols} {a : Expr} → TypeNameAt ts t (mark Mark.CloseParen q ∷ m) → UnaryAt M c m a r
       → SubjectAt M l c (mark Mark.OpenParen p ∷ ts) (Subject.Prefixed (tree.Cast l t a)) r
   grouped : {p q : Line} {d : ℕ} {ts m r : Symbols} {a b : Expr} → ExprAt M c ts a (mark Mark.CloseParen q ∷ m)
-      → SuffixesAt M l c (tree.Paren l a) m b r d → SubjectAt M l c (mark Mark.OpenParen p ∷ ts) (Subject.Postfix b) r
+      → SuffixesAt M l c a m b r d → SubjectAt M l c (mark Mark.OpenParen p ∷ ts) (Subject.Postfix b) r
   of_number : {p : Line} {k : ℤ} {d : ℕ} {ts r : Symbols} {b : Expr} → SuffixesAt M l c (tree.Number l k) ts b r d
       → SubjectAt M l c (number k p ∷ ts) (Subject.Postfix b) r
   of_null : {p : Line} {d : ℕ} {ts r : Symbols} {b : Expr} → SuffixesAt M l c (tree.Null l) ts b r d
@@ -289,7 +289,7 @@ pub data OpenedAt (M : May Symbol) (l : Line) (c : ℕ) : Symbols → Subject �
   cast_end : {q : Line} {t : TypeName} {ts m r : Symbols} {a : Expr} → TypeNameAt ts t (mark Mark.CloseParen q ∷ m) → UnaryAt M c m a r
       → OpenedAt M l c ts (Subject.Prefixed (tree.Cast l t a)) r
   group_end : {q : Line} {d : ℕ} {ts m r : Symbols} {a b : Expr} → ExprAt M c ts a (mark Mark.CloseParen q ∷ m)
-      → SuffixesAt M l c (tree.Paren l a) m b r d → OpenedAt M l c ts (Subject.Postfix b) r
+      → SuffixesAt M l c a m b r d → OpenedAt M l c ts (Subject.Postfix b) r
 
 abbrev pub Opened : Line → ℕ → Form Symbol Subject
 Opened l c M ts v r = OpenedAt M l c ts v r
@@ -299,7 +299,7 @@ T M ts a r = TypeNameAt ts a r
 
 abbrev pub OpenedBy : Line → ℕ → Bool → Form Symbol Subject
 OpenedBy l c true = Seq T (λ t. Seq (MarkAt Mark.CloseParen) (λ q. Seq (Unaries c) (λ a. Gives (Subject.Prefixed (tree.Cast l t a)))))
-OpenedBy l c false = Seq (E c) (λ a. Seq (MarkAt Mark.CloseParen) (λ q. Postfixed l c (tree.Paren l a)))
+OpenedBy l c false = Seq (E c) (λ a. Seq (MarkAt Mark.CloseParen) (λ q. Postfixed l c a))
 
 pub opened_to : (l : Line) (c : ℕ) (b : Bool) (M : May Symbol) (ts : Symbols) (v : Subject) (r : Symbols) → OpenedBy l c b M ts v r → OpenedAt M l c ts v r
 opened_to l c true M ts v r (t, m, d, (q, n, marked, (a, o, u, g))) = given g (OpenedAt M l c ts) (cast_end d u)

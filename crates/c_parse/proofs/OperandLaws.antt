@@ -12,7 +12,7 @@ use Rattle.parse_law.specs.tools.Parsing.{unexpected, peek, turns, repeat}
 use Rattle.parse_law.specs.Nesting.{May}
 use Rattle.parse_law.proofs.Forms.{Completes, Law}
 use Rattle.parse_law.proofs.Steps.{Any, fits_any, false_true}
-use Rattle.parse_law.proofs.Heads.{rise}
+use Rattle.parse_law.proofs.FirstTokens.{rise}
 use Rattle.parse_law.proofs.Repeat.{repeat_law, Takes, takes_rising}
 use Rattle.c_parse.specs.declared.subject.Subject.{Subject}
 use Rattle.c_parse.specs.declared.sorts.OperandStart.{OperandStart}
@@ -169,14 +169,14 @@ module _ (limit : ℕ) (inner : ℕ → P Expr) (Good : ℕ → Type 0) (up : (c
   opened_branches : (l : Line) (c : ℕ) → Good c → (b : Bool) → Branch limit (spec.opened_by limit inner l c b) (OpenedBy l c b) Then AnyToken
   opened_branches l c good true =
       branch limit (seq limit (type_name_part limit) (λ t. seq limit (mark_part limit Mark.CloseParen (λ q. refl)) (λ q. widen limit (seq limit (unary_part limit inner Good up law c good) (λ a. gives_part limit (Subject.Prefixed (tree.Cast l t a)))) (λ t h. tt))))
-  opened_branches l c good false = branch limit (seq limit (part_of c good) (λ a. seq limit (mark_part limit Mark.CloseParen expr_then_close) (λ q. postfix_part l c (tree.Paren l a) good)))
+  opened_branches l c good false = branch limit (seq limit (part_of c good) (λ a. seq limit (mark_part limit Mark.CloseParen expr_then_close) (λ q. postfix_part l c a good)))
 
   opened_part : (l : Line) (c : ℕ) → Good c → Part limit (spec.opened limit inner l c) (Opened l c) Then AnyToken
   unfolding spec.opened spec.expr spec.level spec.chain
   opened_part l c good =
       dispatch limit (λ t. is_base (kind_of t)) (spec.opened_by limit inner l c) (OpenedBy l c) (Opened l c) Then AnyToken
       (λ M t us. opened_to l c (is_base (Some t.kind)) M (t ∷ us)) (λ M ts v r d h. opened_back l c M ts v r d) (opened_branches l c good)
-      (record { tokens = zero_symbol ∷ mark Mark.CloseParen line_one ∷ []; value = Subject.Postfix (tree.Paren l zero_tree); holds = λ M k r free h. group_end (zero_expr (free c _ (omega arith))) no_suffix })
+      (record { tokens = zero_symbol ∷ mark Mark.CloseParen line_one ∷ []; value = Subject.Postfix zero_tree; holds = λ M k r free h. group_end (zero_expr (free c _ (omega arith))) no_suffix })
       refl (λ M v r d h. nothing d)
     where
       nothing : {M : May Symbol} {v : Subject} {r : Symbols} → OpenedAt M l c [] v r → ⊥

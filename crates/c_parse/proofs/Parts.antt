@@ -7,7 +7,7 @@ use Rattle.parse_law.proofs.Bind.{Seq, Leads, free_last, bind, bind_good}
 use Rattle.parse_law.proofs.Carry.{fits_fewer}
 use Rattle.parse_law.proofs.Steps.{Any, convert, pure_law, Pure, Token, accept_law}
 use Rattle.parse_law.proofs.Repeat.{Takes, takes_first, takes_accept}
-use Rattle.parse_law.proofs.Heads.{kept_at, refused, wants, heads, heads_or_empty}
+use Rattle.parse_law.proofs.FirstTokens.{kept_at, refused, wants, heads, heads_or_empty}
 use Rattle.c_parse.specs.tools.Tokens.{next, want, want_by}
 
 module _ {T : Type 0} where

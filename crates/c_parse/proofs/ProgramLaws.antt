@@ -45,7 +45,7 @@ use Rattle.c_parse.proofs.StmtForms.{Blocks}
 use Rattle.c_parse.proofs.StmtLaws.{block_part}
 use Rattle.c_parse.proofs.StmtKnot.{stmt_known, stmt_none}
 use Rattle.c_parse.proofs.ProgramForms.{Fields, field_to, field_back, fields_start, no_field, next_field, FieldTails, tails_split, MoreFields, StructRests, struct_to, struct_back, SignatureEnd, with_body, bodiless, SignatureEnds, FunctionBy, SignatureBy, signature_end_to, block_first, signature_end_back, proto_end, Signatures, signature_to, signature_back, GlobalEnd, of_signature, of_declared, GlobalEnds, GlobalBy, global_end_to, signature_first, global_end_back, GlobalFrom, Globals, ItemForms, TaggedBy, TaggedAt, tagged_struct, tagged_global, Taggeds, tagged_to, struct_first, tagged_back, ItemBy, item_to, signed_global, item_back}
-use Rattle.c_parse.specs.NestingLimit.{nesting_limit}
+use Rattle.dfi_base.specs.Limits.{nesting_limit}
 
 -- ---- the parts
 

@@ -64,6 +64,15 @@ two = record { 0 = 2 }
 grouped : Symbols
 grouped = word Word.Int one ∷ name 0 one ∷ mark Mark.Assign one ∷ mark Mark.OpenParen one ∷ number (pos 1) two ∷ mark Mark.CloseParen two ∷ mark Mark.Semicolon two ∷ []
 
-line_of_parenthesis : IsProgram grouped (value_of_x (digit 1) ∷ [])
+no_line_of_parenthesis : IsProgram grouped (value_of_x (tree.Number two (pos 1)) ∷ [])
 unfolding grouped value_of_x digit programs.program programs.item programs.global programs.global_from programs.global_end stmts.valued stmts.decl_rest stmts.expr_at exprs.expr exprs.level exprs.chain exprs.right exprs.subject exprs.operand exprs.operand_from exprs.opened exprs.postfix types.declared types.stars parsing.repeat parsing.turns parsing.peek parsing.skip parsing.finish want
-line_of_parenthesis = (program_tells grouped).0
+no_line_of_parenthesis = (program_tells grouped).0
+
+-- int x = (
+-- 1) - 2;
+begun : Symbols
+begun = word Word.Int one ∷ name 0 one ∷ mark Mark.Assign one ∷ mark Mark.OpenParen one ∷ number (pos 1) two ∷ mark Mark.CloseParen two ∷ mark Mark.Minus two ∷ number (pos 2) two ∷ mark Mark.Semicolon two ∷ []
+
+begins_at_parenthesis : IsProgram begun (value_of_x (tree.Binary one (tree.Number two (pos 1)) BinaryOp.Sub (tree.Number two (pos 2))) ∷ [])
+unfolding begun value_of_x programs.program programs.item programs.global programs.global_from programs.global_end stmts.valued stmts.decl_rest stmts.expr_at exprs.expr exprs.level exprs.chain exprs.right exprs.subject exprs.operand exprs.operand_from exprs.opened exprs.postfix types.declared types.stars parsing.repeat parsing.turns parsing.peek parsing.skip parsing.finish want
+begins_at_parenthesis = (program_tells begun).0

@@ -14,7 +14,7 @@ use Rattle.parse_law.specs.Nesting.{May}
 use Rattle.parse_law.proofs.Forms.{Free, Completes, Law}
 use Rattle.parse_law.proofs.Bind.{free_last}
 use Rattle.parse_law.proofs.Steps.{false_true}
-use Rattle.parse_law.proofs.Heads.{level_law}
+use Rattle.parse_law.proofs.FirstTokens.{level_law}
 use Rattle.parse_law.proofs.Repeat.{Takes}
 use Rattle.c_parse.specs.Symbol.{Symbol, Symbols, mark}
 use Rattle.c_parse.specs.tools.Sorts.{is_stmt, is_operand}

@@ -14,7 +14,7 @@ use Rattle.parse_law.specs.Nesting.{May}
 use Rattle.parse_law.proofs.Forms.{Form, Alike, Completes, Done, Judge, Law}
 use Rattle.parse_law.proofs.Bind.{Seq, bind_where}
 use Rattle.parse_law.proofs.Steps.{Any, fits_any, false_true}
-use Rattle.parse_law.proofs.Heads.{level_law}
+use Rattle.parse_law.proofs.FirstTokens.{level_law}
 use Rattle.parse_law.proofs.Repeat.{Takes}
 use Rattle.c_parse.specs.declared.sorts.StmtStart.{StmtStart}
 use Rattle.c_parse.specs.Symbol.{Symbol, Symbols, word, mark}

@@ -14,7 +14,7 @@ use Rattle.parse_law.specs.Nesting.{May}
 use Rattle.parse_law.proofs.Forms.{Form, Follow, Completes, Law}
 use Rattle.parse_law.proofs.Bind.{Seq}
 use Rattle.parse_law.proofs.Steps.{fits_any, false_true}
-use Rattle.parse_law.proofs.Heads.{level_law}
+use Rattle.parse_law.proofs.FirstTokens.{level_law}
 use Rattle.parse_law.proofs.Repeat.{Takes}
 use Rattle.c_parse.specs.declared.subject.Subject.{Subject}
 use Rattle.c_parse.specs.Symbol.{Symbol, Symbols, word, mark, name, number}
@@ -151,7 +151,7 @@ module _ (limit : ℕ) where
   subject_one c (Kind.Mark Mark.And) p e = prefix_one c Mark.And p UnaryOp.Address refl
   subject_one c (Kind.Mark Mark.OpenParen) p e = record {
     tokens = zero_symbol ∷ mark Mark.CloseParen line_one ∷ [];
-    value = Subject.Postfix (tree.Paren p zero_tree);
+    value = Subject.Postfix zero_tree;
     holds = λ M l r free h. (mark Mark.OpenParen p, _, refl, grouped (zero_expr (free c _ (omega arith))) no_suffix);
   }
   subject_one c (Kind.Num n) p e = record { tokens = []; value = Subject.Postfix (tree.Number p n); holds = λ M l r free h. (number n p, r, refl, of_number no_suffix) }

@@ -11,7 +11,9 @@ use Rattle.parse_law.specs.Nesting.{May}
 use Rattle.parse_law.proofs.Forms.{Form, Follow, Completes}
 use Rattle.parse_law.proofs.Steps.{Any, nil_cons, false_true}
 use Rattle.c_parse.specs.Symbol.{Symbol, Symbols, word, mark, name, number}
-use Rattle.c_parse.specs.tools.Tokens.{P, next, want, located, located_by, line_next, same_mark, same_word, is_mark, is_word, when, mark_at, word_at, ident_in, ident_at, number_in, number_at}
+use Rattle.c_lex.specs.Marks.{same_mark}
+use Rattle.c_lex.specs.Words.{same_word}
+use Rattle.c_parse.specs.tools.Tokens.{P, next, want, located, located_by, line_next, is_mark, is_word, when, mark_at, word_at, ident_in, ident_at, number_in, number_at}
 use Rattle.c_parse.proofs.Parts.{Part, Reads, reads, reads_part, restate, Branch, branch, refuses, Void, dispatch}
 use denote.Enum.Bare.{same_true, true_same}
 

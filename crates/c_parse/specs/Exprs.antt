@@ -61,14 +61,14 @@ module _ (may : May Symbol) where
           → may c (mark Mark.Arrow p ∷ name n k ∷ ts)
           → SuffixesAt l (suc c) (e.Arrow l a (record { line = k; name = n })) ts x rest d → SuffixesAt l c a (mark Mark.Arrow p ∷ name n k ∷ ts) x rest d
 
-    -- primary = NUM | "NULL" | ID | call | "(" expr ")" | "sizeof" "(" type name ")"
+    -- primary = NUM | "NULL" | ID | call | "(" expr ")" | "sizeof" "(" type name ")". Parentheses make no node: what they hold keeps its own line.
     pub data PrimaryAt : ℕ → Symbols → Expr → Symbols → Type 0 where
       numeral : {c : ℕ} {l : Line} {k : ℤ} {rest : Symbols} → PrimaryAt c (number k l ∷ rest) (e.Number l k) rest
       null : {c : ℕ} {l : Line} {rest : Symbols} → PrimaryAt c (word Word.Null l ∷ rest) (e.Null l) rest
       variable : {c n : ℕ} {l : Line} {rest : Symbols} → PrimaryAt c (name n l ∷ rest) (e.Name (record { line = l; name = n })) rest
       called : {c : ℕ} {f : Ident} {args : List Expr} {ts rest : Symbols} → CallAt c ts f args rest → PrimaryAt c ts (e.Call f args) rest
       paren : {c : ℕ} {l p : Line} {ts rest : Symbols} {a : Expr}
-          → ExprAt c ts a (mark Mark.CloseParen p ∷ rest) → PrimaryAt c (mark Mark.OpenParen l ∷ ts) (e.Paren l a) rest
+          → ExprAt c ts a (mark Mark.CloseParen p ∷ rest) → PrimaryAt c (mark Mark.OpenParen l ∷ ts) a rest
       sizeof : {c : ℕ} {l p q : Line} {t : TypeName} {ts rest : Symbols}
           → TypeNameAt ts t (mark Mark.CloseParen q ∷ rest) → PrimaryAt c (word Word.Sizeof l ∷ mark Mark.OpenParen p ∷ ts) (e.Sizeof l t) rest
 

@@ -1,4 +1,3 @@
-pub mod NestingLimit
 pub mod Symbol
 pub mod Nodes
 pub mod Types

@@ -1,4 +1,4 @@
--- Expressions by form, with the line of their first token.
+-- Expressions by form, with their line: that of their own first token, which a parenthesis round them is not.
 use Rattle.std.specs.Prelude.{ℤ, List}
 use Rattle.dfi_base.specs.declared.numbers.Line.{Line}
 use Rattle.c_ast.specs.declared.ident.Ident.{Ident}
@@ -40,7 +40,3 @@ Call f args = record { line = f.line; form = form.Call f args }
 
 abbrev pub Sizeof : Line → TypeName → Expr
 Sizeof l t = record { line = l; form = form.Sizeof t }
-
--- in parentheses: the first token is the opening one
-abbrev pub Paren : Line → Expr → Expr
-Paren l a = record { line = l; form = a.form }

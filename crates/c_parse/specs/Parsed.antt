@@ -8,18 +8,18 @@ use Rattle.parse_law.specs.FirstFault as first
 use Rattle.c_parse.specs.declared.fault.ParseFault.{ParseFault}
 use Rattle.c_parse.specs.Symbol.{Symbols, symbols_of}
 use Rattle.c_parse.specs.Programs.{ProgramAt}
-use Rattle.c_parse.specs.NestingLimit.{nesting_limit}
+use Rattle.dfi_base.specs.Limits.{nesting_limit}
 
--- the tokens of these items and no others, none of them nested deeper than 200
+-- the tokens of these items and no others, none of them nested deeper than the limit
 abbrev pub IsProgram : Symbols → List Item → Type 0
 IsProgram ts items = first.IsParsed ProgramAt nesting_limit ts items
 
 -- No program goes on with the token at this place, which is the number of tokens where they end too soon. Some program goes on up to it, and
--- no token before it is nested deeper than 200.
+-- no token before it is nested deeper than the limit.
 abbrev pub IsUnexpected : Symbols → ℕ → Type 0
 IsUnexpected ts place = first.IsUnexpected ProgramAt nesting_limit ts place
 
--- The token at this place is the first that is nested deeper than 200, in every program that goes on with it, and some program does.
+-- The token at this place is the first that is nested deeper than the limit, in every program that goes on with it, and some program does.
 abbrev pub IsDeep : Symbols → ℕ → Type 0
 IsDeep ts place = first.IsDeep ProgramAt nesting_limit ts place
 

@@ -1,6 +1,7 @@
 //! The tokens that are not read yet.
 
 ghost use Rattle.std.specs.Prelude.{◌≡◌, ◌≤◌, length};
+ghost use Rattle.dfi_base.specs.Limits.{token_limit};
 ghost use Rattle.parse_law.specs.tools.Parsing.{skip, finish, done};
 ghost use Rattle.c_parse.specs.Symbol.{symbols_of};
 ghost use Rattle.c_parse.specs.tools.Tokens as spec;
@@ -56,13 +57,14 @@ impl<'a> Model for Cursor<'a> {
     ghost view = { λ c. symbols_of c.rest.now };
 
     ghost use Rattle.std.specs.Prelude.{◌≤◌, length};
+    ghost use Rattle.dfi_base.specs.Limits.{token_limit};
 
-    ghost invariant = { λ c. length c.rest.now ≤ 200000 };
+    ghost invariant = { λ c. length c.rest.now ≤ token_limit };
 }
 
 impl<'a> Cursor<'a> {
     pub fn new(rest: &'a [Token]) -> Cursor<'a>
-        requires { length rest.now ≤ 200000 }
+        requires { length rest.now ≤ token_limit }
         ensures { result ≡ symbols_of rest.now }
     {
         Cursor { rest }
@@ -71,7 +73,7 @@ impl<'a> Cursor<'a> {
     /// How many there are.
     pub fn left(&self) -> u32
         ensures count { result ≡ length self.now }
-        ensures few { result ≤ 200000 }
+        ensures few { result ≤ token_limit }
     {
         self.rest.len() as u32
     }
@@ -137,7 +139,7 @@ impl<'a> Cursor<'a> {
         }
     }
 
-    #[tactic(auto, unfolding(crate::specs::Tokens::want))]
+    #[tactic(auto, unfolding(crate::specs::tools::Tokens::want))]
     pub fn mark(&mut self, mark: Mark) -> Result<Line, Failure>
         ensures { Reads (spec.want (spec.mark_at mark) self.old) result self.new }
     {
@@ -150,7 +152,7 @@ impl<'a> Cursor<'a> {
         }
     }
 
-    #[tactic(auto, unfolding(crate::specs::Tokens::want))]
+    #[tactic(auto, unfolding(crate::specs::tools::Tokens::want))]
     pub fn word(&mut self, word: Word) -> Result<Line, Failure>
         ensures { Reads (spec.want (spec.word_at word) self.old) result self.new }
     {
@@ -163,7 +165,7 @@ impl<'a> Cursor<'a> {
         }
     }
 
-    #[tactic(auto, unfolding(crate::specs::Tokens::want))]
+    #[tactic(auto, unfolding(crate::specs::tools::Tokens::want))]
     pub fn ident(&mut self) -> Result<Ident, Failure>
         ensures { Reads (spec.want spec.ident_at self.old) result self.new }
     {
@@ -176,7 +178,7 @@ impl<'a> Cursor<'a> {
         }
     }
 
-    #[tactic(auto, unfolding(crate::specs::Tokens::want))]
+    #[tactic(auto, unfolding(crate::specs::tools::Tokens::want))]
     pub fn number(&mut self) -> Result<i32, Failure>
         ensures { Reads (spec.want spec.number_at self.old) result self.new }
     {
@@ -190,7 +192,7 @@ impl<'a> Cursor<'a> {
     }
 
     /// An operator between two operands.
-    #[tactic(auto, unfolding(crate::specs::Tokens::want))]
+    #[tactic(auto, unfolding(crate::specs::tools::Tokens::want))]
     pub fn binary(&mut self, tier: Tier) -> Result<BinaryOp, Failure>
         ensures { Reads (spec.want (exprs.binary_at tier) self.old) result self.new }
     {
@@ -204,7 +206,7 @@ impl<'a> Cursor<'a> {
     }
 
     /// An operator before an operand.
-    #[tactic(auto, unfolding(crate::specs::Tokens::want))]
+    #[tactic(auto, unfolding(crate::specs::tools::Tokens::want))]
     pub fn unary(&mut self) -> Result<UnaryOp, Failure>
         ensures { Reads (spec.want exprs.unary_at self.old) result self.new }
     {
@@ -217,7 +219,7 @@ impl<'a> Cursor<'a> {
         }
     }
 
-    #[tactic(auto, unfolding(crate::specs::Tokens::want))]
+    #[tactic(auto, unfolding(crate::specs::tools::Tokens::want))]
     pub fn assign(&mut self) -> Result<AssignOp, Failure>
         ensures { Reads (spec.want stmts.assign_at self.old) result self.new }
     {

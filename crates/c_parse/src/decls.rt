@@ -3,25 +3,26 @@
 ghost use Rattle.std.specs.Prelude.{◌≡◌, [], ◌∷◌};
 ghost use Rattle.c_parse.specs.tools.StmtParser as spec;
 ghost use Rattle.c_parse.specs.tools.Reads.{Reads};
-ghost use Rattle.c_parse.specs.NestingLimit.{nesting_limit};
+ghost use Rattle.dfi_base.specs.Limits.{nesting_limit};
 
 use crate::cursor::{Cursor, Failure};
-use crate::exprs::{Exprs, NESTING_LIMIT, subject};
+use crate::exprs::{Exprs, subject};
 use crate::subject::Subject;
 use crate::types::{base, declarator};
 use c_ast::{Base, Decl, DeclItem, Declarator, Expr};
 use c_lex::Mark;
+use dfi_base::limits::NESTING_LIMIT;
 use sqlite_items::Items;
 use std::alloc::Global;
 
-#[tactic(auto, unfolding(crate::specs::StmtParser::operand_at))]
+#[tactic(auto, unfolding(crate::specs::tools::StmtParser::operand_at))]
 pub fn operand_at(alloc: Global, cursor: &mut Cursor<'_>, counter: u32) -> Result<Subject, Failure>
     ensures { Reads (spec.operand_at nesting_limit counter cursor.old) result cursor.new }
 {
     subject(alloc, cursor, NESTING_LIMIT, counter)
 }
 
-#[tactic(auto, unfolding(crate::specs::StmtParser::unary_at))]
+#[tactic(auto, unfolding(crate::specs::tools::StmtParser::unary_at))]
 pub fn unary_at(alloc: Global, cursor: &mut Cursor<'_>, counter: u32) -> Result<Expr, Failure>
     ensures { Reads (spec.unary_at nesting_limit counter cursor.old) result cursor.new }
 {
@@ -33,7 +34,7 @@ pub fn unary_at(alloc: Global, cursor: &mut Cursor<'_>, counter: u32) -> Result<
     exprs.unary(cursor, counter)
 }
 
-#[tactic(auto, unfolding(crate::specs::StmtParser::expr_at))]
+#[tactic(auto, unfolding(crate::specs::tools::StmtParser::expr_at))]
 pub fn expr_at(alloc: Global, cursor: &mut Cursor<'_>, counter: u32) -> Result<Expr, Failure>
     ensures { Reads (spec.expr_at nesting_limit counter cursor.old) result cursor.new }
 {
@@ -46,7 +47,7 @@ pub fn expr_at(alloc: Global, cursor: &mut Cursor<'_>, counter: u32) -> Result<E
 }
 
 /// Behind the declarator.
-#[tactic(auto, unfolding(crate::specs::StmtParser::valued))]
+#[tactic(auto, unfolding(crate::specs::tools::StmtParser::valued))]
 pub fn valued(
     alloc: Global,
     cursor: &mut Cursor<'_>,
@@ -69,7 +70,7 @@ pub fn valued(
     })
 }
 
-#[tactic(auto, unfolding(crate::specs::StmtParser::decl_item))]
+#[tactic(auto, unfolding(crate::specs::tools::StmtParser::decl_item))]
 fn decl_item(alloc: Global, cursor: &mut Cursor<'_>, counter: u32) -> Result<DeclItem, Failure>
     ensures { Reads (spec.decl_item nesting_limit counter cursor.old) result cursor.new }
 {
@@ -98,7 +99,7 @@ fn more_items(
 }
 
 /// Behind the first item.
-#[tactic(auto, unfolding(crate::specs::StmtParser::decl_rest))]
+#[tactic(auto, unfolding(crate::specs::tools::StmtParser::decl_rest))]
 pub fn decl_rest(
     alloc: Global,
     cursor: &mut Cursor<'_>,
@@ -115,7 +116,7 @@ pub fn decl_rest(
     Ok(Decl { base, items })
 }
 
-#[tactic(auto, unfolding(crate::specs::StmtParser::decl))]
+#[tactic(auto, unfolding(crate::specs::tools::StmtParser::decl))]
 pub fn decl(alloc: Global, cursor: &mut Cursor<'_>, counter: u32) -> Result<Decl, Failure>
     ensures { Reads (spec.decl nesting_limit counter cursor.old) result cursor.new }
 {

@@ -5,7 +5,7 @@ ghost use Rattle.parse_law.specs.tools.Parsing.{rising};
 ghost use Rattle.c_parse.specs.tools.ExprParser as spec;
 ghost use Rattle.c_parse.specs.tools.Reads.{Reads};
 ghost use Rattle.c_parse.specs.tools.Nests.{Nests};
-ghost use Rattle.c_parse.specs.NestingLimit.{nesting_limit};
+ghost use Rattle.dfi_base.specs.Limits.{nesting_limit};
 
 use crate::cursor::{Cursor, Failure};
 use crate::nodes;
@@ -18,11 +18,9 @@ use crate::types::type_name;
 use c_ast::{Expr, Form, Ident};
 use c_lex::{Mark, Word};
 use dfi_base::Line;
+use dfi_base::limits::NESTING_LIMIT;
 use sqlite_items::Items;
 use std::alloc::Global;
-
-/// How far nesting may go: `nesting_limit` of the definitions.
-pub const NESTING_LIMIT: u32 = 200;
 
 /// The forms of expressions, over a parser of the operands in them, which may still nest `fuel` times.
 #[derive(Clone, Copy)]
@@ -42,7 +40,7 @@ impl<F: Fn(Global, &mut Cursor<'_>, u32, u32) -> Result<Subject, Failure>> Exprs
     }
 
     #[cycle(level)]
-    #[tactic(auto, unfolding(crate::specs::ExprParser::right))]
+    #[tactic(auto, unfolding(crate::specs::tools::ExprParser::right))]
     fn right(
         &self,
         cursor: &mut Cursor<'_>,
@@ -103,7 +101,7 @@ impl<F: Fn(Global, &mut Cursor<'_>, u32, u32) -> Result<Subject, Failure>> Exprs
     }
 
     #[cycle(level)]
-    #[tactic(auto, unfolding(crate::specs::ExprParser::chain))]
+    #[tactic(auto, unfolding(crate::specs::tools::ExprParser::chain))]
     fn chain(
         &self,
         cursor: &mut Cursor<'_>,
@@ -125,7 +123,7 @@ impl<F: Fn(Global, &mut Cursor<'_>, u32, u32) -> Result<Subject, Failure>> Exprs
 
     /// Operands with the operators of these tiers, lowest first.
     #[cycle(level)]
-    #[tactic(auto, unfolding(crate::specs::ExprParser::level))]
+    #[tactic(auto, unfolding(crate::specs::tools::ExprParser::level))]
     fn level(
         &self,
         cursor: &mut Cursor<'_>,
@@ -144,7 +142,7 @@ impl<F: Fn(Global, &mut Cursor<'_>, u32, u32) -> Result<Subject, Failure>> Exprs
         }
     }
 
-    #[tactic(auto, unfolding(crate::specs::ExprParser::expr))]
+    #[tactic(auto, unfolding(crate::specs::tools::ExprParser::expr))]
     pub fn expr(&self, cursor: &mut Cursor<'_>, counter: u32) -> Result<Expr, Failure>
         requires { Nests self.now.fuel (F.pre self.now.subject) (F.post self.now.subject) }
         ensures { Reads (spec.expr nesting_limit (spec.operands self.now.fuel) counter cursor.old) result cursor.new }
@@ -175,7 +173,7 @@ impl<F: Fn(Global, &mut Cursor<'_>, u32, u32) -> Result<Subject, Failure>> Exprs
     }
 
     /// Behind the opening parenthesis of a call.
-    #[tactic(auto, unfolding(crate::specs::ExprParser::arguments))]
+    #[tactic(auto, unfolding(crate::specs::tools::ExprParser::arguments))]
     fn arguments(&self, cursor: &mut Cursor<'_>, counter: u32) -> Result<Items<Expr>, Failure>
         requires { Nests self.now.fuel (F.pre self.now.subject) (F.post self.now.subject) }
         ensures { Reads (spec.arguments nesting_limit (spec.operands self.now.fuel) counter cursor.old) result cursor.new }
@@ -205,7 +203,7 @@ impl<F: Fn(Global, &mut Cursor<'_>, u32, u32) -> Result<Subject, Failure>> Exprs
         Ok(arguments)
     }
 
-    #[tactic(auto, unfolding(crate::specs::ExprParser::suffix))]
+    #[tactic(auto, unfolding(crate::specs::tools::ExprParser::suffix))]
     fn suffix(
         &self,
         cursor: &mut Cursor<'_>,
@@ -275,7 +273,7 @@ impl<F: Fn(Global, &mut Cursor<'_>, u32, u32) -> Result<Subject, Failure>> Exprs
         Err(Failure::Unexpected(cursor.left()))
     }
 
-    #[tactic(auto, unfolding(crate::specs::ExprParser::postfix))]
+    #[tactic(auto, unfolding(crate::specs::tools::ExprParser::postfix))]
     fn postfix(
         &self,
         cursor: &mut Cursor<'_>,
@@ -291,7 +289,7 @@ impl<F: Fn(Global, &mut Cursor<'_>, u32, u32) -> Result<Subject, Failure>> Exprs
     }
 
     /// Behind the opening parenthesis of a call.
-    #[tactic(auto, unfolding(crate::specs::ExprParser::called))]
+    #[tactic(auto, unfolding(crate::specs::tools::ExprParser::called))]
     fn called(
         &self,
         cursor: &mut Cursor<'_>,
@@ -311,7 +309,7 @@ impl<F: Fn(Global, &mut Cursor<'_>, u32, u32) -> Result<Subject, Failure>> Exprs
     }
 
     /// Behind a name.
-    #[tactic(auto, unfolding(crate::specs::ExprParser::named))]
+    #[tactic(auto, unfolding(crate::specs::tools::ExprParser::named))]
     fn named(
         &self,
         cursor: &mut Cursor<'_>,
@@ -334,7 +332,7 @@ impl<F: Fn(Global, &mut Cursor<'_>, u32, u32) -> Result<Subject, Failure>> Exprs
     }
 
     /// Behind an opening parenthesis: a cast where a type comes next.
-    #[tactic(auto, unfolding(crate::specs::ExprParser::opened))]
+    #[tactic(auto, unfolding(crate::specs::tools::ExprParser::opened))]
     fn opened(&self, cursor: &mut Cursor<'_>, line: Line, counter: u32) -> Result<Subject, Failure>
         requires { Nests self.now.fuel (F.pre self.now.subject) (F.post self.now.subject) }
         ensures { Reads (spec.opened nesting_limit (spec.operands self.now.fuel) line counter cursor.old) result cursor.new }
@@ -348,11 +346,10 @@ impl<F: Fn(Global, &mut Cursor<'_>, u32, u32) -> Result<Subject, Failure>> Exprs
         }
         let inside = self.expr(cursor, counter)?;
         cursor.mark(Mark::CloseParen)?;
-        let form = inside.form;
-        self.postfix(cursor, line, counter, Expr { line, form })
+        self.postfix(cursor, line, counter, inside)
     }
 
-    #[tactic(auto, unfolding(crate::specs::ExprParser::operand_from))]
+    #[tactic(auto, unfolding(crate::specs::tools::ExprParser::operand_from))]
     fn operand_from(
         &self,
         cursor: &mut Cursor<'_>,
@@ -398,7 +395,7 @@ impl<F: Fn(Global, &mut Cursor<'_>, u32, u32) -> Result<Subject, Failure>> Exprs
         }
     }
 
-    #[tactic(auto, unfolding(crate::specs::ExprParser::operand))]
+    #[tactic(auto, unfolding(crate::specs::tools::ExprParser::operand))]
     fn operand(&self, cursor: &mut Cursor<'_>, counter: u32) -> Result<Subject, Failure>
         requires { Nests self.now.fuel (F.pre self.now.subject) (F.post self.now.subject) }
         ensures { Reads (spec.operand nesting_limit (spec.operands self.now.fuel) counter cursor.old) result cursor.new }
@@ -411,7 +408,7 @@ impl<F: Fn(Global, &mut Cursor<'_>, u32, u32) -> Result<Subject, Failure>> Exprs
 }
 
 /// An operand that may hold others, as deep as `fuel`.
-#[tactic(auto, unfolding(crate::specs::ExprParser::subject))]
+#[tactic(auto, unfolding(crate::specs::tools::ExprParser::subject))]
 pub fn subject(
     alloc: Global,
     cursor: &mut Cursor<'_>,

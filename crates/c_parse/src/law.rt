@@ -7,7 +7,7 @@ ghost use Rattle.parse_law.specs.FirstFault.{Continues};
 ghost use Rattle.parse_law.specs.Tells.{HasOneAnswer};
 ghost use Rattle.c_parse.specs.Symbol.{Symbols};
 ghost use Rattle.c_parse.specs.Programs.{ProgramAt};
-ghost use Rattle.c_parse.specs.NestingLimit.{nesting_limit};
+ghost use Rattle.dfi_base.specs.Limits.{nesting_limit};
 
 /// Tokens are a program or have a first fault, and not two of these.
 pub fn one_answer()

@@ -3,11 +3,10 @@
 ghost use Rattle.std.specs.Prelude.{◌≡◌, [], ◌∷◌, IfOk};
 ghost use Rattle.c_parse.specs.tools.ProgramParser as spec;
 ghost use Rattle.c_parse.specs.tools.Reads.{Reads};
-ghost use Rattle.c_parse.specs.NestingLimit.{nesting_limit};
+ghost use Rattle.dfi_base.specs.Limits.{nesting_limit};
 
 use crate::cursor::{Cursor, Failure};
 use crate::decls::{decl_rest, valued};
-use crate::exprs::NESTING_LIMIT;
 use crate::sorts::{ItemStart, is_open, item_start};
 use crate::stmts::{Stmts, stmt};
 use crate::types::{base, declarator, declared, parameter_list, stars};
@@ -17,6 +16,7 @@ use c_ast::{
 };
 use c_lex::{Mark, Word};
 use dfi_base::Line;
+use dfi_base::limits::NESTING_LIMIT;
 use sqlite_items::Items;
 use std::alloc::{AllocError, Global};
 
@@ -39,7 +39,7 @@ fn more_declarators(
     Err(Failure::Unexpected(cursor.left()))
 }
 
-#[tactic(auto, unfolding(crate::specs::ProgramParser::field))]
+#[tactic(auto, unfolding(crate::specs::tools::ProgramParser::field))]
 fn field(alloc: Global, cursor: &mut Cursor<'_>) -> Result<Field, Failure>
     ensures { Reads (spec.field cursor.old) result cursor.new }
 {
@@ -71,7 +71,7 @@ fn more_fields(
 }
 
 /// Behind the tag.
-#[tactic(auto, unfolding(crate::specs::ProgramParser::struct_rest))]
+#[tactic(auto, unfolding(crate::specs::tools::ProgramParser::struct_rest))]
 fn struct_rest(
     alloc: Global,
     cursor: &mut Cursor<'_>,
@@ -90,7 +90,7 @@ fn struct_rest(
     Ok(Item::Struct(StructDef { line, tag, fields }))
 }
 
-#[tactic(auto, unfolding(crate::specs::ProgramParser::body))]
+#[tactic(auto, unfolding(crate::specs::tools::ProgramParser::body))]
 fn body(alloc: Global, cursor: &mut Cursor<'_>) -> Result<Block<Stmt>, Failure>
     ensures { Reads (spec.body nesting_limit cursor.old) result cursor.new }
 {
@@ -135,7 +135,7 @@ fn named_params(alloc: Global, params: &ProtoParams) -> Result<Option<Params>, A
 }
 
 /// Behind the closing parenthesis: a function only where each parameter has a name.
-#[tactic(auto, unfolding(crate::specs::ProgramParser::signature_end))]
+#[tactic(auto, unfolding(crate::specs::tools::ProgramParser::signature_end))]
 fn signature_end(
     alloc: Global,
     cursor: &mut Cursor<'_>,
@@ -167,7 +167,7 @@ fn signature_end(
     }
 }
 
-#[tactic(auto, unfolding(crate::specs::ProgramParser::signature))]
+#[tactic(auto, unfolding(crate::specs::tools::ProgramParser::signature))]
 fn signature(
     alloc: Global,
     cursor: &mut Cursor<'_>,
@@ -183,7 +183,7 @@ fn signature(
 }
 
 /// Behind the first name.
-#[tactic(auto, unfolding(crate::specs::ProgramParser::global_end))]
+#[tactic(auto, unfolding(crate::specs::tools::ProgramParser::global_end))]
 fn global_end(
     alloc: Global,
     cursor: &mut Cursor<'_>,
@@ -203,7 +203,7 @@ fn global_end(
     Ok(Item::Decl(decl))
 }
 
-#[tactic(auto, unfolding(crate::specs::ProgramParser::global_from))]
+#[tactic(auto, unfolding(crate::specs::tools::ProgramParser::global_from))]
 fn global_from(
     alloc: Global,
     cursor: &mut Cursor<'_>,
@@ -218,7 +218,7 @@ fn global_from(
 }
 
 /// Behind the base.
-#[tactic(auto, unfolding(crate::specs::ProgramParser::global))]
+#[tactic(auto, unfolding(crate::specs::tools::ProgramParser::global))]
 fn global(alloc: Global, cursor: &mut Cursor<'_>, base: Base) -> Result<Item, Failure>
     ensures { Reads (spec.global nesting_limit base cursor.old) result cursor.new }
 {
@@ -229,7 +229,7 @@ fn global(alloc: Global, cursor: &mut Cursor<'_>, base: Base) -> Result<Item, Fa
 }
 
 /// Behind the tag.
-#[tactic(auto, unfolding(crate::specs::ProgramParser::tagged))]
+#[tactic(auto, unfolding(crate::specs::tools::ProgramParser::tagged))]
 fn tagged(alloc: Global, cursor: &mut Cursor<'_>, line: Line, tag: Ident) -> Result<Item, Failure>
     ensures { Reads (spec.tagged nesting_limit line tag cursor.old) result cursor.new }
 {
@@ -239,7 +239,7 @@ fn tagged(alloc: Global, cursor: &mut Cursor<'_>, line: Line, tag: Ident) -> Res
     global(alloc, cursor, Base::Struct { line, tag })
 }
 
-#[tactic(auto, unfolding(crate::specs::ProgramParser::item))]
+#[tactic(auto, unfolding(crate::specs::tools::ProgramParser::item))]
 fn item(alloc: Global, cursor: &mut Cursor<'_>) -> Result<Item, Failure>
     ensures { Reads (spec.item nesting_limit cursor.old) result cursor.new }
 {
@@ -281,7 +281,7 @@ fn items(
 }
 
 /// Every token.
-#[tactic(auto, unfolding(crate::specs::ProgramParser::program))]
+#[tactic(auto, unfolding(crate::specs::tools::ProgramParser::program))]
 pub fn program(alloc: Global, cursor: &mut Cursor<'_>) -> Result<Items<Item>, Failure>
     ensures { Reads (spec.program nesting_limit cursor.old) result cursor.new }
 {

@@ -4,7 +4,7 @@ ghost use Rattle.std.specs.Prelude.{◌≡◌, [], ◌∷◌};
 ghost use Rattle.c_parse.specs.tools.StmtParser as spec;
 ghost use Rattle.c_parse.specs.tools.Reads.{Reads};
 ghost use Rattle.c_parse.specs.declared.sorts.SubjectEnd.{SubjectEnd};
-ghost use Rattle.c_parse.specs.NestingLimit.{nesting_limit};
+ghost use Rattle.dfi_base.specs.Limits.{nesting_limit};
 
 use crate::cursor::{Cursor, Failure};
 use crate::decls::{decl, expr_at, operand_at, unary_at};
@@ -74,7 +74,7 @@ fn call(cursor: &mut Cursor<'_>, subject: Subject) -> Result<Simple, Failure>
 }
 
 /// Behind the operand.
-#[tactic(auto, unfolding(crate::specs::StmtParser::simple_end))]
+#[tactic(auto, unfolding(crate::specs::tools::StmtParser::simple_end))]
 fn simple_end(
     alloc: Global,
     cursor: &mut Cursor<'_>,
@@ -92,7 +92,7 @@ fn simple_end(
     }
 }
 
-#[tactic(auto, unfolding(crate::specs::StmtParser::simple_from))]
+#[tactic(auto, unfolding(crate::specs::tools::StmtParser::simple_from))]
 fn simple_from(
     alloc: Global,
     cursor: &mut Cursor<'_>,
@@ -120,7 +120,7 @@ fn simple_from(
     }
 }
 
-#[tactic(auto, unfolding(crate::specs::StmtParser::simple))]
+#[tactic(auto, unfolding(crate::specs::tools::StmtParser::simple))]
 pub fn simple(alloc: Global, cursor: &mut Cursor<'_>, counter: u32) -> Result<Simple, Failure>
     ensures { Reads (spec.simple nesting_limit counter cursor.old) result cursor.new }
 {
@@ -131,7 +131,7 @@ pub fn simple(alloc: Global, cursor: &mut Cursor<'_>, counter: u32) -> Result<Si
 }
 
 /// Before a semicolon.
-#[tactic(auto, unfolding(crate::specs::StmtParser::optional_expr))]
+#[tactic(auto, unfolding(crate::specs::tools::StmtParser::optional_expr))]
 pub fn optional_expr(
     alloc: Global,
     cursor: &mut Cursor<'_>,
@@ -147,7 +147,7 @@ pub fn optional_expr(
 }
 
 /// Before this mark.
-#[tactic(auto, unfolding(crate::specs::StmtParser::optional_simple))]
+#[tactic(auto, unfolding(crate::specs::tools::StmtParser::optional_simple))]
 pub fn optional_simple(
     alloc: Global,
     cursor: &mut Cursor<'_>,
@@ -163,7 +163,7 @@ pub fn optional_simple(
     Ok(Some(simple))
 }
 
-#[tactic(auto, unfolding(crate::specs::StmtParser::for_start))]
+#[tactic(auto, unfolding(crate::specs::tools::StmtParser::for_start))]
 pub fn for_start(alloc: Global, cursor: &mut Cursor<'_>, counter: u32) -> Result<ForStart, Failure>
     ensures { Reads (spec.for_start nesting_limit counter cursor.old) result cursor.new }
 {
@@ -177,7 +177,7 @@ pub fn for_start(alloc: Global, cursor: &mut Cursor<'_>, counter: u32) -> Result
 }
 
 /// In parentheses.
-#[tactic(auto, unfolding(crate::specs::StmtParser::condition))]
+#[tactic(auto, unfolding(crate::specs::tools::StmtParser::condition))]
 pub fn condition(alloc: Global, cursor: &mut Cursor<'_>, counter: u32) -> Result<Expr, Failure>
     ensures { Reads (spec.condition nesting_limit counter cursor.old) result cursor.new }
 {

@@ -4,16 +4,16 @@ ghost use Rattle.std.specs.Prelude.{◌≡◌, [], ◌∷◌};
 ghost use Rattle.c_parse.specs.tools.StmtParser as spec;
 ghost use Rattle.c_parse.specs.tools.Reads.{Reads};
 ghost use Rattle.c_parse.specs.tools.Nests.{NestsStmts};
-ghost use Rattle.c_parse.specs.NestingLimit.{nesting_limit};
+ghost use Rattle.dfi_base.specs.Limits.{nesting_limit};
 
 use crate::cursor::{Cursor, Failure};
 use crate::decls::decl;
-use crate::exprs::NESTING_LIMIT;
 use crate::simple::{condition, for_start, optional_expr, optional_simple, simple};
 use crate::sorts::{StmtStart, is_base, is_open, is_stmt, stmt_start};
 use c_ast::{Block, BlockItem, Expr, ForStart, Stmt};
 use c_lex::{Mark, Word};
 use dfi_base::Line;
+use dfi_base::limits::NESTING_LIMIT;
 use sqlite_items::{Boxed, Items};
 use std::alloc::Global;
 
@@ -33,7 +33,7 @@ impl<F: Fn(Global, &mut Cursor<'_>, u32, u32) -> Result<Stmt, Failure>> Stmts<F>
         (self.stmt)(self.alloc, cursor, self.fuel, counter)
     }
 
-    #[tactic(auto, unfolding(crate::specs::StmtParser::item))]
+    #[tactic(auto, unfolding(crate::specs::tools::StmtParser::item))]
     fn item(&self, cursor: &mut Cursor<'_>, counter: u32) -> Result<BlockItem<Stmt>, Failure>
         requires { NestsStmts self.now.fuel (F.pre self.now.stmt) (F.post self.now.stmt) }
         ensures { Reads (spec.item nesting_limit (spec.stmt nesting_limit self.now.fuel) counter cursor.old) result cursor.new }
@@ -66,7 +66,7 @@ impl<F: Fn(Global, &mut Cursor<'_>, u32, u32) -> Result<Stmt, Failure>> Stmts<F>
         Err(Failure::Unexpected(cursor.left()))
     }
 
-    #[tactic(auto, unfolding(crate::specs::StmtParser::block_body))]
+    #[tactic(auto, unfolding(crate::specs::tools::StmtParser::block_body))]
     fn block_body(&self, cursor: &mut Cursor<'_>, counter: u32) -> Result<Block<Stmt>, Failure>
         requires { NestsStmts self.now.fuel (F.pre self.now.stmt) (F.post self.now.stmt) }
         ensures { Reads (spec.block_body nesting_limit (spec.stmt nesting_limit self.now.fuel) counter cursor.old) result cursor.new }
@@ -77,7 +77,7 @@ impl<F: Fn(Global, &mut Cursor<'_>, u32, u32) -> Result<Stmt, Failure>> Stmts<F>
         Ok(Block { line, items, close })
     }
 
-    #[tactic(auto, unfolding(crate::specs::StmtParser::block))]
+    #[tactic(auto, unfolding(crate::specs::tools::StmtParser::block))]
     pub fn block(&self, cursor: &mut Cursor<'_>, counter: u32) -> Result<Block<Stmt>, Failure>
         requires { NestsStmts self.now.fuel (F.pre self.now.stmt) (F.post self.now.stmt) }
         ensures { Reads (spec.block nesting_limit (spec.stmt nesting_limit self.now.fuel) counter cursor.old) result cursor.new }
@@ -112,7 +112,7 @@ impl<F: Fn(Global, &mut Cursor<'_>, u32, u32) -> Result<Stmt, Failure>> Stmts<F>
     }
 
     /// Behind the first part of an `if`: an `else` is taken by the nearest.
-    #[tactic(auto, unfolding(crate::specs::StmtParser::otherwise))]
+    #[tactic(auto, unfolding(crate::specs::tools::StmtParser::otherwise))]
     fn otherwise(
         &self,
         cursor: &mut Cursor<'_>,
@@ -144,7 +144,7 @@ impl<F: Fn(Global, &mut Cursor<'_>, u32, u32) -> Result<Stmt, Failure>> Stmts<F>
         })
     }
 
-    #[tactic(auto, unfolding(crate::specs::StmtParser::if_from))]
+    #[tactic(auto, unfolding(crate::specs::tools::StmtParser::if_from))]
     fn if_from(&self, cursor: &mut Cursor<'_>, counter: u32) -> Result<Stmt, Failure>
         requires { NestsStmts self.now.fuel (F.pre self.now.stmt) (F.post self.now.stmt) }
         ensures { Reads (spec.if_from nesting_limit (spec.stmt nesting_limit self.now.fuel) counter cursor.old) result cursor.new }
@@ -155,7 +155,7 @@ impl<F: Fn(Global, &mut Cursor<'_>, u32, u32) -> Result<Stmt, Failure>> Stmts<F>
         self.otherwise(cursor, counter, line, condition, first)
     }
 
-    #[tactic(auto, unfolding(crate::specs::StmtParser::while_from))]
+    #[tactic(auto, unfolding(crate::specs::tools::StmtParser::while_from))]
     fn while_from(&self, cursor: &mut Cursor<'_>, counter: u32) -> Result<Stmt, Failure>
         requires { NestsStmts self.now.fuel (F.pre self.now.stmt) (F.post self.now.stmt) }
         ensures { Reads (spec.while_from nesting_limit (spec.stmt nesting_limit self.now.fuel) counter cursor.old) result cursor.new }
@@ -172,7 +172,7 @@ impl<F: Fn(Global, &mut Cursor<'_>, u32, u32) -> Result<Stmt, Failure>> Stmts<F>
     }
 
     /// Behind the first part of a `for`.
-    #[tactic(auto, unfolding(crate::specs::StmtParser::for_rest))]
+    #[tactic(auto, unfolding(crate::specs::tools::StmtParser::for_rest))]
     fn for_rest(
         &self,
         cursor: &mut Cursor<'_>,
@@ -198,7 +198,7 @@ impl<F: Fn(Global, &mut Cursor<'_>, u32, u32) -> Result<Stmt, Failure>> Stmts<F>
         })
     }
 
-    #[tactic(auto, unfolding(crate::specs::StmtParser::for_from))]
+    #[tactic(auto, unfolding(crate::specs::tools::StmtParser::for_from))]
     fn for_from(&self, cursor: &mut Cursor<'_>, counter: u32) -> Result<Stmt, Failure>
         requires { NestsStmts self.now.fuel (F.pre self.now.stmt) (F.post self.now.stmt) }
         ensures { Reads (spec.for_from nesting_limit (spec.stmt nesting_limit self.now.fuel) counter cursor.old) result cursor.new }
@@ -209,7 +209,7 @@ impl<F: Fn(Global, &mut Cursor<'_>, u32, u32) -> Result<Stmt, Failure>> Stmts<F>
         self.for_rest(cursor, counter, line, start)
     }
 
-    #[tactic(auto, unfolding(crate::specs::StmtParser::par_from))]
+    #[tactic(auto, unfolding(crate::specs::tools::StmtParser::par_from))]
     fn par_from(&self, cursor: &mut Cursor<'_>, counter: u32) -> Result<Stmt, Failure>
         requires { NestsStmts self.now.fuel (F.pre self.now.stmt) (F.post self.now.stmt) }
         ensures { Reads (spec.par_from nesting_limit (spec.stmt nesting_limit self.now.fuel) counter cursor.old) result cursor.new }
@@ -221,7 +221,7 @@ impl<F: Fn(Global, &mut Cursor<'_>, u32, u32) -> Result<Stmt, Failure>> Stmts<F>
         Ok(Stmt::Par { line, branches })
     }
 
-    #[tactic(auto, unfolding(crate::specs::StmtParser::return_from))]
+    #[tactic(auto, unfolding(crate::specs::tools::StmtParser::return_from))]
     fn return_from(&self, cursor: &mut Cursor<'_>, counter: u32) -> Result<Stmt, Failure>
         requires { NestsStmts self.now.fuel (F.pre self.now.stmt) (F.post self.now.stmt) }
         ensures { Reads (spec.return_from nesting_limit (spec.stmt nesting_limit self.now.fuel) counter cursor.old) result cursor.new }
@@ -232,7 +232,7 @@ impl<F: Fn(Global, &mut Cursor<'_>, u32, u32) -> Result<Stmt, Failure>> Stmts<F>
         Ok(Stmt::Return { line, value })
     }
 
-    #[tactic(auto, unfolding(crate::specs::StmtParser::statement))]
+    #[tactic(auto, unfolding(crate::specs::tools::StmtParser::statement))]
     fn statement(&self, cursor: &mut Cursor<'_>, counter: u32) -> Result<Stmt, Failure>
         requires { NestsStmts self.now.fuel (F.pre self.now.stmt) (F.post self.now.stmt) }
         ensures { Reads (spec.statement nesting_limit (spec.stmt nesting_limit self.now.fuel) counter cursor.old) result cursor.new }
@@ -272,7 +272,7 @@ impl<F: Fn(Global, &mut Cursor<'_>, u32, u32) -> Result<Stmt, Failure>> Stmts<F>
 }
 
 /// A statement that may hold others, as deep as `fuel`.
-#[tactic(auto, unfolding(crate::specs::StmtParser::stmt))]
+#[tactic(auto, unfolding(crate::specs::tools::StmtParser::stmt))]
 pub fn stmt(
     alloc: Global,
     cursor: &mut Cursor<'_>,

@@ -12,7 +12,7 @@ use dfi_base::Line;
 use sqlite_items::Items;
 use std::alloc::Global;
 
-#[tactic(auto, unfolding(crate::specs::TypeParser::base))]
+#[tactic(auto, unfolding(crate::specs::tools::TypeParser::base))]
 pub fn base(cursor: &mut Cursor<'_>) -> Result<Base, Failure>
     ensures { Reads (spec.base cursor.old) result cursor.new }
 {
@@ -43,7 +43,7 @@ pub fn stars(cursor: &mut Cursor<'_>) -> Result<u32, Failure>
     Err(Failure::Unexpected(cursor.left()))
 }
 
-#[tactic(auto, unfolding(crate::specs::TypeParser::type_name))]
+#[tactic(auto, unfolding(crate::specs::tools::TypeParser::type_name))]
 pub fn type_name(cursor: &mut Cursor<'_>) -> Result<TypeName, Failure>
     ensures { Reads (spec.type_name cursor.old) result cursor.new }
 {
@@ -52,7 +52,7 @@ pub fn type_name(cursor: &mut Cursor<'_>) -> Result<TypeName, Failure>
     Ok(TypeName { base, stars })
 }
 
-#[tactic(auto, unfolding(crate::specs::TypeParser::bracketed))]
+#[tactic(auto, unfolding(crate::specs::tools::TypeParser::bracketed))]
 fn bracketed(cursor: &mut Cursor<'_>) -> Result<i32, Failure>
     ensures { Reads (spec.bracketed cursor.old) result cursor.new }
 {
@@ -77,7 +77,7 @@ fn more_lengths(cursor: &mut Cursor<'_>, mut found: Items<i32>) -> Result<Items<
 }
 
 /// Behind the name.
-#[tactic(auto, unfolding(crate::specs::TypeParser::declared))]
+#[tactic(auto, unfolding(crate::specs::tools::TypeParser::declared))]
 pub fn declared(
     alloc: Global,
     cursor: &mut Cursor<'_>,
@@ -96,7 +96,7 @@ pub fn declared(
     })
 }
 
-#[tactic(auto, unfolding(crate::specs::TypeParser::declarator_from))]
+#[tactic(auto, unfolding(crate::specs::tools::TypeParser::declarator_from))]
 fn declarator_from(
     alloc: Global,
     cursor: &mut Cursor<'_>,
@@ -109,7 +109,7 @@ fn declarator_from(
     declared(alloc, cursor, line, stars, name)
 }
 
-#[tactic(auto, unfolding(crate::specs::TypeParser::declarator))]
+#[tactic(auto, unfolding(crate::specs::tools::TypeParser::declarator))]
 pub fn declarator(alloc: Global, cursor: &mut Cursor<'_>) -> Result<Declarator, Failure>
     ensures { Reads (spec.declarator cursor.old) result cursor.new }
 {
@@ -119,7 +119,7 @@ pub fn declarator(alloc: Global, cursor: &mut Cursor<'_>) -> Result<Declarator, 
     }
 }
 
-#[tactic(auto, unfolding(crate::specs::TypeParser::brackets))]
+#[tactic(auto, unfolding(crate::specs::tools::TypeParser::brackets))]
 fn brackets(cursor: &mut Cursor<'_>) -> Result<Brackets, Failure>
     ensures { Reads (spec.brackets cursor.old) result cursor.new }
 {
@@ -136,7 +136,7 @@ fn brackets(cursor: &mut Cursor<'_>) -> Result<Brackets, Failure>
     Ok(Brackets::Length(length))
 }
 
-#[tactic(auto, unfolding(crate::specs::TypeParser::name))]
+#[tactic(auto, unfolding(crate::specs::tools::TypeParser::name))]
 fn name(cursor: &mut Cursor<'_>) -> Result<Option<Ident>, Failure>
     ensures { Reads (spec.name cursor.old) result cursor.new }
 {
@@ -147,7 +147,7 @@ fn name(cursor: &mut Cursor<'_>) -> Result<Option<Ident>, Failure>
     Ok(Some(name))
 }
 
-#[tactic(auto, unfolding(crate::specs::TypeParser::param))]
+#[tactic(auto, unfolding(crate::specs::tools::TypeParser::param))]
 fn param(cursor: &mut Cursor<'_>) -> Result<ProtoParam, Failure>
     ensures { Reads (spec.param cursor.old) result cursor.new }
 {
@@ -181,7 +181,7 @@ fn more_params(
     Err(Failure::Unexpected(cursor.left()))
 }
 
-#[tactic(auto, unfolding(crate::specs::TypeParser::params))]
+#[tactic(auto, unfolding(crate::specs::tools::TypeParser::params))]
 fn params(alloc: Global, cursor: &mut Cursor<'_>) -> Result<Items<ProtoParam>, Failure>
     ensures { Reads (spec.params cursor.old) result cursor.new }
 {
@@ -191,7 +191,7 @@ fn params(alloc: Global, cursor: &mut Cursor<'_>) -> Result<Items<ProtoParam>, F
     more_params(cursor, found)
 }
 
-#[tactic(auto, unfolding(crate::specs::TypeParser::parameter_list))]
+#[tactic(auto, unfolding(crate::specs::tools::TypeParser::parameter_list))]
 pub fn parameter_list(alloc: Global, cursor: &mut Cursor<'_>) -> Result<ProtoParams, Failure>
     ensures { Reads (spec.parameter_list cursor.old) result cursor.new }
 {

@@ -12,10 +12,10 @@ pub mod StmtReads
 pub mod ProgramReads
 pub mod Runs
 pub mod Spelled
-pub mod Laid
-pub mod Thin
-pub mod ThinExpr
-pub mod ThinStmt
+pub mod SpacedTokens
+pub mod FewerParens
+pub mod FewerParensExpr
+pub mod FewerParensStmt
 pub mod WholeText
 pub mod SameText
 pub mod SameStmts

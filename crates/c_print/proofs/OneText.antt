@@ -13,7 +13,7 @@ use Rattle.c_print.specs.SameTree.{SameTree, first, on_one_line}
 use Rattle.c_print.specs.Text.{spaced, text_of}
 use Rattle.c_print.specs.TreeTokens.{Kinds, tokens_of}
 use Rattle.c_print.proofs.Joining.{on_line}
-use Rattle.c_print.proofs.Laid.{kinds as laid_kinds}
+use Rattle.c_print.proofs.SpacedTokens.{kinds as laid_kinds}
 use Rattle.c_print.proofs.ProgramReads.{read_program}
 use Rattle.c_print.proofs.SameStmts.{same_tokens}
 use Rattle.c_print.proofs.WholeText.{lexed_of, text_lexes}

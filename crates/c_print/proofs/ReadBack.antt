@@ -22,10 +22,11 @@ use Rattle.c_print.specs.SameTree.{SameTree, first, on_first_line, on_one_line}
 use Rattle.c_print.specs.Text.{text_of}
 use Rattle.c_print.specs.TreeTokens.{Kinds, tokens_of}
 use Rattle.c_print.proofs.Joining.{on_line}
-use Rattle.c_print.proofs.Laid.{symbols as laid_symbols, kinds as laid_kinds}
+use Rattle.c_print.proofs.SpacedTokens.{symbols as laid_symbols, kinds as laid_kinds}
 use Rattle.c_print.proofs.ProgramReads.{read_program}
 use Rattle.c_print.proofs.SameStmts.{same_tokens}
 use Rattle.c_print.proofs.WholeText.{lexed_of, text_lexes}
+use Rattle.dfi_base.specs.Limits.{nesting_limit}
 
 -- with the last line set to one
 abbrev tree : List (List ℕ) → List Item → Ast
@@ -52,7 +53,7 @@ not_deep ts k items d s deep =
       0,
       omega arith,
       subst (λ (us : Symbols). ProgramAt Anywhere us items) (sym whole) d,
-      subst (λ (us : Symbols). ProgramAt (Within 200 0) us items) (sym whole) s,
+      subst (λ (us : Symbols). ProgramAt (Within nesting_limit 0) us items) (sym whole) s,
     )
 
 module _ (bytes : List ℕ) (a : Ast) (t : IsTreeOf bytes a) where

@@ -17,7 +17,7 @@ use Rattle.c_lex.specs.declared.piece.Piece.TheVariants.{Gap, Name, Number, Open
 use Rattle.c_lex.specs.Bytes.{is_white, is_word_byte, is_newline, newlines}
 use Rattle.c_lex.specs.Constant.{constant_of, digit_value, is_digit_in, number_in}
 use Rattle.c_lex.specs.PieceOf.{begins, piece_of, when}
-use Rattle.c_lex.proofs.Front.{IsFront, piece_white, piece_run, piece_line, piece_block, piece_mark, piece_nil, two_at}
+use Rattle.c_lex.proofs.LongestPiece.{IsFront, piece_white, piece_run, piece_line, piece_block, piece_mark, piece_nil, two_at}
 use Rattle.c_lex.proofs.Closed.{closed}
 
 pub record IsRun (text : List ℕ) : Type 0 where

@@ -10,8 +10,8 @@ use Rattle.c_print.specs.NoSpareParens.{WithoutSome, none, kept, opening, closin
 use Rattle.c_print.specs.SameTree.{SameTree}
 use Rattle.c_print.specs.TreeTokens.{Kinds, tokens_of}
 use Rattle.c_print.proofs.OneText.{tokens_same}
-use Rattle.c_print.proofs.Thin.{Thin, same, keep, lost, opens, closes}
-use Rattle.c_print.proofs.ThinStmt.{program_thin}
+use Rattle.c_print.proofs.FewerParens.{Thin, same, keep, lost, opens, closes}
+use Rattle.c_print.proofs.FewerParensStmt.{program_thin}
 
 without : {ts : Symbols} {ks : Kinds} → Thin ts ks [] → WithoutSome (map (λ (s : Symbol). s.kind) ts) ks
 without same = none

@@ -7,11 +7,11 @@ use Rattle.c_lex.specs.declared.token.Kind.{Kind}
 use Rattle.c_lex.specs.declared.token.Mark.{Mark}
 use Rattle.c_lex.specs.declared.token.Word.{Word}
 use Rattle.c_lex.specs.Bytes.{newlines}
-use Rattle.c_lex.specs.Marks.{mark_of, spellings}
+use Rattle.c_lex.specs.Marks.{mark_of, mark_text, spellings}
 use Rattle.c_lex.specs.PieceOf.{piece_of}
 use Rattle.c_lex.specs.Tokens.{IsKind}
-use Rattle.c_lex.specs.Words.{word_of, words}
-use Rattle.c_print.specs.Spelling.{of_mark, of_name, of_word, spelled}
+use Rattle.c_lex.specs.Words.{word_of, word_text, words}
+use Rattle.c_print.specs.Spelling.{of_name, spelled}
 use Rattle.c_print.proofs.Runs.{IsRun, decimal_piece, decimal_run, name_run, run_ends, run_line}
 
 -- text is the token p, a space ends it, and it stands on one line
@@ -20,8 +20,8 @@ pub record Stands (text : List ℕ) (p : Piece) : Type 0 where
   pub ends : piece_of (text ++ 32 ∷ []) ≡ None
   pub line : newlines text ≡ 0
 
-pub word_stands : (w : Word) → Stands (of_word w) (pieces.Word w)
-unfolding piece_of word_of words
+pub word_stands : (w : Word) → Stands (word_text w) (pieces.Word w)
+unfolding piece_of word_of words word_text
 word_stands Word.Int = record { is = refl; ends = refl; line = refl }
 word_stands Word.Void = record { is = refl; ends = refl; line = refl }
 word_stands Word.Struct = record { is = refl; ends = refl; line = refl }
@@ -37,8 +37,8 @@ word_stands Word.Sizeof = record { is = refl; ends = refl; line = refl }
 word_stands Word.Null = record { is = refl; ends = refl; line = refl }
 word_stands Word.Unused = record { is = refl; ends = refl; line = refl }
 
-pub mark_stands : (m : Mark) → Stands (of_mark m) (pieces.Mark m)
-unfolding piece_of mark_of spellings
+pub mark_stands : (m : Mark) → Stands (mark_text m) (pieces.Mark m)
+unfolding piece_of mark_of spellings mark_text
 mark_stands Mark.OpenBrace = record { is = refl; ends = refl; line = refl }
 mark_stands Mark.CloseBrace = record { is = refl; ends = refl; line = refl }
 mark_stands Mark.OpenParen = record { is = refl; ends = refl; line = refl }

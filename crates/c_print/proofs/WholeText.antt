@@ -19,7 +19,7 @@ use Rattle.c_lex.specs.Names.{each_once, if_name, name_texts}
 use Rattle.c_lex.specs.PieceOf.{begins, number_piece, piece_of, run_piece, when, word_piece}
 use Rattle.c_lex.specs.Tokens.{IsKind, Tokens}
 use Rattle.c_lex.specs.Words.{word_of}
-use Rattle.c_lex.proofs.Front.{piece_white, piece_run, piece_line, piece_block, piece_mark, piece_nil, two_at}
+use Rattle.c_lex.proofs.LongestPiece.{piece_white, piece_run, piece_line, piece_block, piece_mark, piece_nil, two_at}
 use Rattle.c_ast.specs.Ast.{Ast}
 use Rattle.c_parse.specs.Symbol.{Symbol, Symbols, symbols_of}
 use Rattle.c_print.specs.SameTree.{first}
@@ -27,10 +27,10 @@ use Rattle.c_print.specs.Text.{text_of}
 use Rattle.c_print.specs.TreeTokens.{Kinds, tokens_of}
 use Rattle.c_print.specs.IsTreeOf.{IsTreeOf}
 use Rattle.c_print.proofs.Joining.{on_line}
-use Rattle.c_print.proofs.Laid.{AllReal, all_tokens, first_line, laid_all, long, spaced_line, symbols as laid_symbols}
+use Rattle.c_print.proofs.SpacedTokens.{AllReal, all_tokens, first_line, laid_all, long, spaced_line, symbols as laid_symbols}
 use Rattle.c_print.proofs.Spelled.{IsReal}
-use Rattle.c_print.proofs.Thin.{Thin, same, keep, lost}
-use Rattle.c_print.proofs.ThinStmt.{program_thin}
+use Rattle.c_print.proofs.FewerParens.{Thin, same, keep, lost}
+use Rattle.c_print.proofs.FewerParensStmt.{program_thin}
 
 -- ---- a number of a source is within the limit
 

@@ -1,5 +1,6 @@
 -- What the text of a tree reads back to. Each law is of every tree that some source has; what `parse` gives is one.
 use Rattle.std.specs.Prelude.{◌≡◌, ℕ, List, map, Result, Ok, Err}
+use Rattle.dfi_base.specs.Limits.{nesting_limit}
 use Rattle.c_lex.specs.declared.fault.LexFault.{LexFault}
 use Rattle.c_lex.specs.declared.token.Token.{Token}
 use Rattle.c_lex.specs.FirstFault.{GivesMeaning}
@@ -36,9 +37,9 @@ KeepsTokens = (bytes : List ℕ) (a : Ast) → IsTreeOf bytes a → (answer : Re
 
 -- ---- what `parse` answers on the tokens of the text
 
--- None of these tokens is nested too deep for these items: the counter of their derivation rises from below 200 alone.
+-- None of these tokens is nested too deep for these items: the counter of their derivation rises from below the limit alone.
 abbrev pub IsShallow : Symbols → List Item → Type 0
-IsShallow ts items = ProgramAt (Within 200 0) ts items
+IsShallow ts items = ProgramAt (Within nesting_limit 0) ts items
 
 -- The same tree where no token is nested too deep, else that one is. No token is unexpected. Want of memory is free.
 abbrev pub ParsesBack : Ast → Symbols → Result Ast ParseFault → Type 0

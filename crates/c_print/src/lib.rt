@@ -16,5 +16,4 @@ mod tokens;
 mod types;
 
 pub use law::{keeps_tokens, keeps_tree, no_spare_parens, one_text, parse_gives_trees, reads_back};
-pub use spelling::{mark_text, word_text};
 pub use text::print;

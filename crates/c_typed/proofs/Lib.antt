@@ -29,3 +29,5 @@ pub mod WellMain
 pub mod WellEarlier
 pub mod WellSizes
 pub mod WellProgram
+mod DeclaredStmts
+mod Declared

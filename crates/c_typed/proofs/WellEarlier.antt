@@ -1,6 +1,6 @@
 -- In a text that breaks no rule a struct that stands by value in another stands before it.
 use Rattle.std.proofs.Common.{◌≡◌, ℕ, zero, suc, ◌+◌, ◌<◌, ◌≤◌, Bool, true, false, ◌||◌, List, [], ◌∷◌, ◌++◌, map, length, Option, Some, None, refl, ap, sym, ◌∙◌, subst, arith}
-use Rattle.std.specs.Prelude.{slice_get, nat_eq}
+use Rattle.std.specs.Prelude.{slice_get, nat_eq, nat_lt}
 use Rattle.std.proofs.lemmas.List.{append_assoc}
 use Rattle.std.proofs.lemmas.Bool.Decides.{nat_tests}
 use Rattle.dfi_base.specs.declared.numbers.Line.{Line}
@@ -40,6 +40,7 @@ Earlier n t = IsEarlier n t.base t.stars
 abbrev BaseBefore : ℕ → BaseType → Type 0
 BaseBefore n BaseType.Int = Unit {0}
 BaseBefore n (BaseType.Struct j) = j < n
+BaseBefore n BaseType.Unknown = ⊥
 
 -- the structs that are whole here are among the first n
 abbrev Before : Whole → ℕ → History → Type 0
@@ -51,6 +52,8 @@ by_stars n BaseType.Int zero is = tt
 by_stars n BaseType.Int (suc s) is = tt
 by_stars n (BaseType.Struct j) zero is = is refl
 by_stars n (BaseType.Struct j) (suc s) is = tt
+by_stars n BaseType.Unknown zero is = is refl
+by_stars n BaseType.Unknown (suc s) is = tt
 
 or_first : (a b : Bool) → a ≡ true → a || b ≡ true
 or_first true b e = refl
@@ -70,34 +73,41 @@ base_when : (w : Whole) (n x : ℕ) (line : Line) (h : History) (b : Bool) (at :
 base_when w n x line h true at is test e = is x test
 base_when w n x line h false at is test e = absurd (none_each e)
 
-base_before : (w : Whole) (n : ℕ) (v : Bool) (b : Base) (here : Place) → Before w n here.before → ((base w v b).judge here).faults ≡ [] → v ≡ true → BaseBefore n (base_type w.tags b)
-base_before w n false b here is e value = absurd (false_true value)
-base_before w n true (Base.Int line) here is e value = tt
-base_before w n true (Base.Struct line x) here is e value = base_when w n x.name x.line here.before (has_tag x.name here.before) (here.at + 1) is refl e
+-- the struct of a number below both
+struct_before : (n m k : ℕ) (b : Bool) → nat_lt k m ≡ b → k < n → k < m → BaseBefore n (elim b as (λ b. BaseType) [ true ↦ BaseType.Struct k | false ↦ BaseType.Unknown ])
+struct_before n m k true at less within = less
+struct_before n m k false at less within = absurd (grind (arith, nat_tests, at, within))
 
-line_earlier : (w : Whole) (n : ℕ) (f : Field) (here : Place) → Before w n here.before → ((fields w f).judge here).faults ≡ [] → AllOf (Earlier n) (map (declared_type w.tags f.base) f.items)
-line_earlier w n f here is e =
+base_before : (w : Whole) (n : ℕ) (v : Bool) (b : Base) (here : Place) → n ≤ length w.tags → Before w n here.before → ((base w v b).judge here).faults ≡ [] → v ≡ true → BaseBefore n (base_type w.tags b)
+base_before w n false b here le is e value = absurd (false_true value)
+base_before w n true (Base.Int line) here le is e value = tt
+base_before w n true (Base.Struct line x) here le is e value =
+    let less = base_when w n x.name x.line here.before (has_tag x.name here.before) (here.at + 1) is refl e in
+    struct_before n (length w.tags) (place_of x.name w.tags) (nat_lt (place_of x.name w.tags) (length w.tags)) refl less (omega (arith, less, le))
+
+line_earlier : (w : Whole) (n : ℕ) (f : Field) (here : Place) → n ≤ length w.tags → Before w n here.before → ((fields w f).judge here).faults ≡ [] → AllOf (Earlier n) (map (declared_type w.tags f.base) f.items)
+line_earlier w n f here le is e =
     let bs = base w (by_value f.items) f.base in
     let items = ((separated (map (field_item w f.base) f.items)).judge (behind bs here)).faults in
-    all_earlier n w.tags f.base f.items (base_before w n (by_value f.items) f.base here is (none_first (bs.judge here).faults items (none_first ((bs.judge here).faults ++ items) [] e)))
+    all_earlier n w.tags f.base f.items (base_before w n (by_value f.items) f.base here le is (none_first (bs.judge here).faults items (none_first ((bs.judge here).faults ++ items) [] e)))
 
-lines_earlier : (w : Whole) (n : ℕ) (fs : List Field) (here : Place) → Before w n here.before → ((in_turn (map (fields w) fs)).judge here).faults ≡ [] → AllOf (Earlier n) (line_objects w.tags fs)
-lines_earlier w n [] here is e = tt
-lines_earlier w n (f ∷ fs) here is e =
+lines_earlier : (w : Whole) (n : ℕ) (fs : List Field) (here : Place) → n ≤ length w.tags → Before w n here.before → ((in_turn (map (fields w) fs)).judge here).faults ≡ [] → AllOf (Earlier n) (line_objects w.tags fs)
+lines_earlier w n [] here le is e = tt
+lines_earlier w n (f ∷ fs) here le is e =
     let there = behind (fields w f) here in
     let own = ((fields w f).judge here).faults in
     let rest = ((in_turn (map (fields w) fs)).judge there).faults in
-    all_append (Earlier n) (map (declared_type w.tags f.base) f.items) (line_objects w.tags fs) (line_earlier w n f here is (none_first own rest e))
-    (lines_earlier w n fs there (λ x t. is x (sym (tags_fields x here.before (fields w f).marks (line_fields w f)) ∙ t)) (none_second own rest e))
+    all_append (Earlier n) (map (declared_type w.tags f.base) f.items) (line_objects w.tags fs) (line_earlier w n f here le is (none_first own rest e))
+    (lines_earlier w n fs there le (λ x t. is x (sym (tags_fields x here.before (fields w f).marks (line_fields w f)) ∙ t)) (none_second own rest e))
 
-struct_earlier : (w : Whole) (n : ℕ) (d : StructDef) (here : Place) → Before w n here.before → ((struct w d).judge here).faults ≡ [] → AllOf (Earlier n) (map (λ m. m.object) (members w.tags d.fields))
-struct_earlier w n d here is e =
+struct_earlier : (w : Whole) (n : ℕ) (d : StructDef) (here : Place) → n ≤ length w.tags → Before w n here.before → ((struct w d).judge here).faults ≡ [] → AllOf (Earlier n) (map (λ m. m.object) (members w.tags d.fields))
+struct_earlier w n d here le is e =
     let q = tokens 3 ⊗> mark (marks.opens marks.fields) in
     let there = behind q here in
     let fs = (in_turn (map (fields w) d.fields)).judge there in
     let own = unless (Rattle.std.specs.Prelude.not (has_tag d.tag.name here.before)) (here.at + 1) twice d.tag.line in
     let inner = none_first fs.faults [] (none_first (fs.faults ++ []) [] (none_first (fs.faults ++ [] ++ []) [] (none_second own (fs.faults ++ [] ++ [] ++ []) e))) in
-    subst (AllOf (Earlier n)) (sym (members_objects w.tags d.fields)) (lines_earlier w n d.fields there is inner)
+    subst (AllOf (Earlier n)) (sym (members_objects w.tags d.fields)) (lines_earlier w n d.fields there le is inner)
 
 -- The structs of a text.
 place_when : (x : ℕ) (pre rest : List ℕ) (b : Bool) → place_of x (pre ++ (x ∷ rest)) ≤ length pre → elim b as (λ b. ℕ) [ true ↦ 0 | false ↦ suc (place_of x (pre ++ (x ∷ rest))) ] ≤ suc (length pre)
@@ -131,6 +141,10 @@ abbrev pub EarlierFrom : ℕ → List (List Member) → Type 0
 EarlierFrom n [] = Unit {0}
 EarlierFrom n (ms ∷ rest) = AllOf (Earlier n) (map (λ m. m.object) ms) × EarlierFrom (suc n) rest
 
+front_within : (pre rest : List ℕ) → length pre ≤ length (pre ++ rest)
+front_within [] rest = omega arith
+front_within (p ∷ pre) rest = (let le = front_within pre rest in omega (arith, le))
+
 abbrev fields_of : List ℕ → List Item → List (List Member)
 fields_of tags is = map (λ (d : StructDef). members tags d.fields) (struct_defs is)
 
@@ -141,7 +155,7 @@ structs_earlier w (Item.Struct d ∷ is) pre here e was clean =
     let tags = map (λ (d : StructDef). d.tag.name) (struct_defs is) in
     let one_more = length_after pre d.tag.name in
     let own = subst (λ ts. place_of d.tag.name ts ≤ length pre) (sym e) (place_own pre d.tag.name tags) in (
-      struct_earlier w (length pre) d here was clean.0,
+      struct_earlier w (length pre) d here (subst (λ ts. length pre ≤ length ts) (sym e) (front_within pre (d.tag.name ∷ tags))) was clean.0,
       subst (λ n. EarlierFrom n (fields_of w.tags is)) one_more
           (structs_earlier w is (pre ++ (d.tag.name ∷ [])) (behind (item w (Item.Struct d)) here) (e ∙ sym (append_assoc pre (d.tag.name ∷ []) tags))
           (subst (λ n. Before w n (marked (struct w d).marks here.before)) (sym one_more) (behind_struct w (length pre) d here.before own was)) clean.1),

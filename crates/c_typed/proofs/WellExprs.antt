@@ -1,5 +1,5 @@
 -- The value of an expression is well-formed, by its form.
-use Rattle.std.proofs.Common.{◌≡◌, ℕ, ◌<◌, Bool, true, false, ◌&&◌, List, [], ◌∷◌, length, Option, Some, None, refl, subst, arith}
+use Rattle.std.proofs.Common.{◌≡◌, ℕ, ◌<◌, Bool, true, false, ◌&&◌, ◌||◌, List, [], ◌∷◌, length, Option, Some, None, refl, ap, ◌∙◌, subst, arith}
 use Rattle.std.specs.Prelude.{nat_eq}
 use Rattle.std.proofs.lemmas.Bool.Decides.{nat_tests}
 use Rattle.dfi_base.specs.declared.numbers.Line.{Line}
@@ -13,17 +13,17 @@ use Rattle.c_typed.specs.declared.types.ExprType.{ExprType}
 use Rattle.c_typed.specs.declared.expr.PrefixOp.{PrefixOp}
 use Rattle.c_typed.specs.declared.expr.Expr.{Expr}
 use Rattle.c_typed.specs.declared.expr.Form.TheOpen.{Form-F}
-use Rattle.c_typed.specs.Types.{place_of, base_type, named_type, is_truth}
+use Rattle.c_typed.specs.Types.{place_of, base_type, named_type, is_truth, is_unknown}
 use Rattle.c_typed.specs.Marks.{History}
 use Rattle.c_typed.specs.Whole.{Whole}
 use Rattle.c_typed.specs.Faults.{unknown, mismatch, not_lvalue}
 use Rattle.c_typed.specs.Parts.{Part, tokens, obeys, ◌<⊗◌, ◌⊗>◌}
 use Rattle.c_typed.specs.Tags.{base, type_name, is_tag, known_tag}
 use Rattle.c_typed.specs.Exprs
-use Rattle.c_typed.specs.Exprs.{made, Size, Reading, value, place, operands, value_by_type, place_by_type, of_ints, of_sum, of_difference, binary_type, binary, int_prefix, plus, pointed_at, address_by, address, unary, item_at, struct_by, struct_of, struct_at, struct_behind, with_struct}
+use Rattle.c_typed.specs.Exprs.{made, Size, Reading, value, place, operands, value_by_type, place_by_type, of_ints, of_sum, of_difference, binary_type, binary, int_prefix, plus, pointed_at, address_by, address, unary, unless_untyped, item_by, item_at, struct_by, struct_of, struct_at, struct_behind, with_struct}
 use Rattle.c_typed.specs.IsWell.{IsBase, IsObject, IsTyping, Context, IsExpr, IsPrefix}
 use Rattle.c_typed.proofs.WellParts.{none_some, some_is, Stands, Pure, pure_tokens, pure_joined, pure_map, pure_obeys}
-use Rattle.c_typed.proofs.WellTypes.{IsLinked, item_object, typing_of, made_known, one, two, place_object, pointer_object, value_known}
+use Rattle.c_typed.proofs.WellTypes.{IsLinked, struct_is, item_object, typing_of, is_typed, no_unknown, made_known, one, two, place_object, pointer_object, value_known}
 
 -- What is wanted of a part that may be there.
 abbrev pub IfPure : (w : Whole) (c : Context) {A : Type 0} → Option (Part A) → (A → Type 0) → Type 0
@@ -57,6 +57,7 @@ module _ (w : Whole) (c : Context) (linked : IsLinked w c) where
   place_known e ExprType.Null v is has = absurd (none_some has)
   place_known e (ExprType.Pointer t) v is has = absurd (none_some has)
   place_known e ExprType.Void v is has = absurd (none_some has)
+  place_known e ExprType.Unknown v is has = subst (IsExpr c) (some_is has) is
 
   pub sound_place : (r : Reading) → IsSound w c r → Pure w c (place r) (IsExpr c)
   sound_place r is = pure_obeys w c not_lvalue r.line _ r.plain is.plain (λ h e v st e_is has. place_known e e.typing v e_is has)
@@ -102,8 +103,18 @@ module _ (w : Whole) (c : Context) (linked : IsLinked w c) where
       subst (IsExpr c) (some_is e_is)
       (made_known w c linked t (Form-F.Binary e op f) (binary_typing op e.typing f.typing t (typing_of w c linked e is) (typing_of w c linked f that) has) has (two w c linked e f is that))
 
+  typed_rule : (b : Bool) (layer : Exprs.Layer) (o : Option Expr) (v : Expr) → b ≡ false → unless_untyped b layer o ≡ Some v → o ≡ Some v
+  typed_rule false layer o v at has = has
+  typed_rule true layer o v at has = absurd (subst (λ b. elim b as (λ b. Type 0) [ true ↦ Unit {0} | false ↦ ⊥ ]) at tt)
+
+  neither : (a b : Bool) → a ≡ false → b ≡ false → a || b ≡ false
+  neither a b e f = ap (λ a. a || b) e ∙ f
+
   pub binary_known : (op : BinaryOp) (e f v : Expr) → IsExpr c e → IsExpr c f → binary op e f ≡ Some v → IsExpr c v
-  binary_known op e f v is that has = binary_by op e f (binary_type op e.typing f.typing) v is that refl has
+  binary_known op e f v is that has =
+      binary_by op e f (binary_type op e.typing f.typing) v is that refl
+      (typed_rule (is_unknown e.typing || is_unknown f.typing) (Form-F.Binary e op f) _ v
+      (neither (is_unknown e.typing) (is_unknown f.typing) (is_typed w c linked e is) (is_typed w c linked f that)) has)
 
   prefix_known : (op : PrefixOp) (e : Expr) (s : ExprType) (v : Expr) → (e.typing ≡ ExprType.Int → IsPrefix op e.typing) → IsExpr c e → e.typing ≡ s → int_prefix op e s ≡ Some v → IsExpr c v
   prefix_known op e ExprType.Int v by is at has =
@@ -112,6 +123,7 @@ module _ (w : Whole) (c : Context) (linked : IsLinked w c) where
   prefix_known op e ExprType.Null v by is at has = absurd (none_some has)
   prefix_known op e (ExprType.Pointer t) v by is at has = absurd (none_some has)
   prefix_known op e ExprType.Void v by is at has = absurd (none_some has)
+  prefix_known op e ExprType.Unknown v by is at has = absurd (no_unknown w c linked e is at)
 
   plus_known : (e : Expr) (s : ExprType) (v : Expr) → IsExpr c e → plus e s ≡ Some v → IsExpr c v
   plus_known e ExprType.Int v is has = subst (IsExpr c) (some_is has) is
@@ -119,6 +131,7 @@ module _ (w : Whole) (c : Context) (linked : IsLinked w c) where
   plus_known e ExprType.Null v is has = absurd (none_some has)
   plus_known e (ExprType.Pointer t) v is has = absurd (none_some has)
   plus_known e ExprType.Void v is has = absurd (none_some has)
+  plus_known e ExprType.Unknown v is has = subst (IsExpr c) (some_is has) is
 
   negated : (e v : Expr) (b : Bool) → IsExpr c e → is_truth e.typing ≡ b → elim b as (λ b. Option Expr) [ true ↦ Some (made ExprType.Int (Form-F.Prefix PrefixOp.Not e)) | false ↦ None ] ≡ Some v → IsExpr c v
   negated e v true is at has = subst (IsExpr c) (some_is has) (made_known w c linked ExprType.Int (Form-F.Prefix PrefixOp.Not e) tt (at, refl) (one w c linked e is))
@@ -131,6 +144,7 @@ module _ (w : Whole) (c : Context) (linked : IsLinked w c) where
   pointed_known e (ExprType.Place t) v is at has = absurd (none_some has)
   pointed_known e ExprType.Null v is at has = absurd (none_some has)
   pointed_known e ExprType.Void v is at has = absurd (none_some has)
+  pointed_known e ExprType.Unknown v is at has = absurd (no_unknown w c linked e is at)
 
   address_of : (e : Expr) (t : ObjectType) (ls : List ℕ) (v : Expr) → IsExpr c e → e.typing ≡ ExprType.Place t → t.lengths ≡ ls → address_by e t ls ≡ Some v → IsExpr c v
   address_of e t [] v is at none_left has =
@@ -143,6 +157,7 @@ module _ (w : Whole) (c : Context) (linked : IsLinked w c) where
   address_known e ExprType.Null v is at has = absurd (none_some has)
   address_known e (ExprType.Pointer t) v is at has = absurd (none_some has)
   address_known e ExprType.Void v is at has = absurd (none_some has)
+  address_known e ExprType.Unknown v is at has = absurd (no_unknown w c linked e is at)
 
   behind_sign : (r : Reading) → IsSound w c r → Pure w c (tokens 1 ⊗> value r) (IsExpr c)
   behind_sign r is = pure_joined w c (λ a b. b) (tokens 1) (value r) (pure_tokens w c 1) (sound_value r is) (λ a b x y. y)
@@ -150,14 +165,14 @@ module _ (w : Whole) (c : Context) (linked : IsLinked w c) where
   pub sound_unary : (op : UnaryOp) (line : Line) (r : Reading) → IsSound w c r → Pure w c (unary op line r) (IsExpr c)
   sound_unary UnaryOp.Minus line r is = pure_obeys w c mismatch line _ _ (behind_sign r is) (λ h e v st x has. prefix_known PrefixOp.Minus e e.typing v (λ t. t) x refl has)
   sound_unary UnaryOp.Plus line r is = pure_obeys w c mismatch line _ _ (behind_sign r is) (λ h e v st x has. plus_known e e.typing v x has)
-  sound_unary UnaryOp.Not line r is = pure_obeys w c mismatch line _ _ (behind_sign r is) (λ h e v st x has. negated e v (is_truth e.typing) x refl has)
+  sound_unary UnaryOp.Not line r is = pure_obeys w c mismatch line _ _ (behind_sign r is) (λ h e v st x has. negated e v (is_truth e.typing) x refl (typed_rule (is_unknown e.typing) (Form-F.Prefix PrefixOp.Not e) _ v (is_typed w c linked e x) has))
   sound_unary UnaryOp.Complement line r is = pure_obeys w c mismatch line _ _ (behind_sign r is) (λ h e v st x has. prefix_known PrefixOp.Complement e e.typing v (λ t. t) x refl has)
   sound_unary UnaryOp.Deref line r is = pure_obeys w c mismatch line _ _ (behind_sign r is) (λ h e v st x has. pointed_known e e.typing v x refl has)
   sound_unary UnaryOp.Address line r is =
       pure_obeys w c mismatch line _ _ (pure_joined w c (λ a b. b) (tokens 1) (place r) (pure_tokens w c 1) (sound_place r is) (λ a b x y. y)) (λ h e v st x has. address_known e e.typing v x refl has)
 
   -- Indices.
-  item_known : (p i : Expr) (s t : ExprType) (v : Expr) → IsExpr c p → IsExpr c i → p.typing ≡ s → i.typing ≡ t → item_at p i s t ≡ Some v → IsExpr c v
+  item_known : (p i : Expr) (s t : ExprType) (v : Expr) → IsExpr c p → IsExpr c i → p.typing ≡ s → i.typing ≡ t → item_by p i s t ≡ Some v → IsExpr c v
   item_known p i (ExprType.Pointer t) ExprType.Int v is that p_is i_is has =
       subst (IsExpr c) (some_is has)
       (made_known w c linked (ExprType.Place t) (Form-F.Index p i) (pointer_object w c linked p t is p_is) (t, p_is, i_is, refl) (two w c linked p i is that))
@@ -168,7 +183,9 @@ module _ (w : Whole) (c : Context) (linked : IsLinked w c) where
   sound_index line l r is that =
       pure_obeys w c mismatch line (λ h e. item_at e.0 e.1 e.0.typing e.1.typing) (operands l r <⊗ tokens 1)
       (pure_joined w c (λ a b. a) (operands l r) (tokens 1) (sound_operands l r is that) (pure_tokens w c 1) (λ a b x y. x))
-      (λ h e v st x has. item_known e.0 e.1 e.0.typing e.1.typing v x.0 x.1 refl refl has)
+      (λ h e v st x has. item_known e.0 e.1 e.0.typing e.1.typing v x.0 x.1 refl refl
+      (typed_rule (is_unknown e.0.typing || is_unknown e.1.typing) (Form-F.Index e.0 e.1) _ v
+      (neither (is_unknown e.0.typing) (is_unknown e.1.typing) (is_typed w c linked e.0 x.0) (is_typed w c linked e.1 x.1)) has))
 
   pub sound_binary : (line : Line) (op : BinaryOp) (l r : Reading) → IsSound w c l → IsSound w c r → Pure w c (obeys mismatch line (λ h e. binary op e.0 e.1) (operands l r)) (IsExpr c)
   sound_binary line op l r is that =
@@ -185,7 +202,7 @@ module _ (w : Whole) (c : Context) (linked : IsLinked w c) where
 
   tag_known : (line : Line) (tag : Ident) (h : History) (by_value b : Bool) (u : Unit {0}) → Stands w c h → is_tag w h by_value tag.name ≡ b
       → elim b as (λ b. Option (Unit {0})) [ true ↦ Some u | false ↦ None ] ≡ Some u → HasBase (Base.Struct line tag)
-  tag_known line tag h by_value true u st at has = subst (λ n. place_of tag.name w.tags < n) linked.tags (tag_within tag.name h by_value true st at)
+  tag_known line tag h by_value true u st at has = struct_is c.structs (length w.tags) (place_of tag.name w.tags) (tag_within tag.name h by_value true st at) linked.tags
   tag_known line tag h by_value false u st at has = absurd (none_some has)
 
   pub sound_base : (by_value : Bool) (b : Base) → Pure w c (base w by_value b) (λ u. HasBase b)

@@ -21,14 +21,15 @@ use Rattle.c_typed.specs.Whole.{Whole, Signature, Builtin, Meaning, meaning, is_
 use Rattle.c_typed.specs.Faults.{Fault, unknown, mismatch}
 use Rattle.c_typed.specs.Parts.{Place, Part, tokens, given, obeys, refused, ◌⊗◌, ◌<⊗◌, ◌⊗>◌}
 use Rattle.c_typed.specs.Tags.{type_name}
-use Rattle.c_typed.specs.Exprs.{Layer, made, Size, Reading, value, many_of, one_of, struct_by, struct_of, struct_at, struct_behind, with_struct, field_by, field_of, fielded, found_by, name, name_as, all_fit, called_type, applied, asked, put_by, put, freed_by, freed, allocated, arguments, called, allocation_by, allocation, call_as, call, is_malloc, cast_by, counted_by, product, form_step, expr}
+use Rattle.c_typed.specs.Exprs.{Layer, made, Size, Reading, value, many_of, one_of, struct_by, struct_of, struct_at, struct_behind, with_struct, known_struct, field_by, field_of, fielded, in_struct, found_by, name, name_as, all_fit, called_type, applied, asked, put_by, put, freed_by, freed, allocated, arguments, called, allocation_by, allocation, call_as, call, is_malloc, cast_by, counted_by, product, form_step, expr}
+use Rattle.c_typed.specs.Decls.{is_scalar}
 use Rattle.c_typed.specs.Programs.{main_in}
 use Rattle.c_typed.specs.tools.Scopes.{scopes_of}
 use Rattle.c_typed.specs.IsWell.{IsBase, IsObject, IsTyping, Context, IsField, IsLayer, IsFreed, IsCount, operands_of, operand_there, IsExpr, AreExprs, none, each}
 use Rattle.c_typed.proofs.Levels.{mapped_form, read_form, form_roll, expr_reads}
 use Rattle.c_typed.proofs.ScopeLaws.{variable_found}
 use Rattle.c_typed.proofs.WellParts.{none_some, some_is, IsBound, found_bound, Pure, pure_tokens, pure_given, pure_joined, pure_map, pure_obeys, pure_refused}
-use Rattle.c_typed.proofs.WellTypes.{IsLinked, scalar_typing, made_known, one, place_object, pointer_object, field_there}
+use Rattle.c_typed.proofs.WellTypes.{IsLinked, scalar_typing, place_is, no_unknown, made_known, one, place_object, pointer_object, field_there}
 use Rattle.c_typed.proofs.WellExprs.{IfPure, IsExprThere, IsSize, IsSound, plainly, sound_value, sound_binary, sound_unary, sound_index, sound_type_name}
 
 -- The function of a name.
@@ -111,42 +112,53 @@ module _ (w : Whole) (c : Context) (linked : IsLinked w c) where
       let d = linked.fields x.1 k in
       let there = field_there f.name 0 (get_or w.structs x.1 []) m has in
       let field = ap (λ ts. slice_get ts m.0) d.2 ∙ ap (slice_get (map (λ m. m.object) (get_or w.structs x.1 []))) (there.1 ∙ omega arith) ∙ there.2 in
-      subst (IsExpr c) (some_is e)
+      subst (IsExpr c) (ap (λ s. made s (form x.0 m.0)) (sym (place_is w c linked m.1 (linked.members x.1 m.0 d.0 m.1 d.1 field).base)) ∙ some_is e)
       (made_known w c linked (ExprType.Place m.1) (form x.0 m.0) (linked.members x.1 m.0 d.0 m.1 d.1 field)
       (is.layer m.0 (ExprType.Place m.1) (record { number = x.1; whole = d.0; field = m.1; struct = is.struct; there = d.1; has = field; typing = refl })) (is.operands m.0))
 
-  fielded_known : (f : Ident) (form : Expr → ℕ → Layer) (at : ℕ) (fs : List Fault) (o : Option (Expr × ℕ)) (v : Expr) → ((x : Expr × ℕ) → o ≡ Some x → IsHolder form x)
+  -- a struct that has a type
+  abbrev Holds : (Expr → ℕ → Layer) → Expr × Option ℕ → Type 0
+  Holds form x = (k : ℕ) × (x.1 ≡ Some k) × IsHolder form (x.0, k)
+
+  in_struct_known : (f : Ident) (form : Expr → ℕ → Layer) (at : ℕ) (fs : List Fault) (e : Expr) (o : Option ℕ) (v : Expr) → Holds form (e, o) → (in_struct w f form at fs e o).value ≡ Some v → IsExpr c v
+  in_struct_known f form at fs e None v is has = absurd (none_some is.1)
+  in_struct_known f form at fs e (Some j) v is has =
+      field_known f form at fs (e, j) (field_by f.name 0 (get_or w.structs j [])) v (subst (λ k. IsHolder form (e, k)) (sym (some_is is.1)) is.2) refl has
+
+  fielded_known : (f : Ident) (form : Expr → ℕ → Layer) (at : ℕ) (fs : List Fault) (o : Option (Expr × Option ℕ)) (v : Expr) → ((x : Expr × Option ℕ) → o ≡ Some x → Holds form x)
       → (fielded w f form at fs o).value ≡ Some v → IsExpr c v
   fielded_known f form at fs None v is e = absurd (none_some e)
-  fielded_known f form at fs (Some x) v is e = field_known f form at fs x (field_by f.name 0 (get_or w.structs x.1 [])) v (is x refl) refl e
+  fielded_known f form at fs (Some x) v is e = in_struct_known f form at fs x.0 x.1 v (is x refl) e
 
-  sound_field_of : (f : Ident) (form : Expr → ℕ → Layer) (p : Part (Expr × ℕ)) → Pure w c p (IsHolder form) → Pure w c (field_of w f form p) (IsExpr c)
+  sound_field_of : (f : Ident) (form : Expr → ℕ → Layer) (p : Part (Expr × Option ℕ)) → Pure w c p (Holds form) → Pure w c (field_of w f form p) (IsExpr c)
   sound_field_of f form p is = record {
     quiet = is.quiet;
     sound = λ here st v e. fielded_known f form (here.at + p.tokens + 1) (p.judge here).faults (p.judge here).value v (λ x has. is.sound here st x has) e;
   }
 
-  holder_at : (e : Expr) (s : ExprType) (x : Expr × ℕ) → IsExpr c e → e.typing ≡ s → with_struct e (struct_at s) ≡ Some x → IsHolder Form-F.Field x
+  holder_at : (e : Expr) (s : ExprType) (x : Expr × Option ℕ) → IsExpr c e → e.typing ≡ s → with_struct e (struct_at s) ≡ Some x → Holds Form-F.Field x
   holder_at e (ExprType.Place t) x is at has = by (struct_of t) refl has where
-    by : (o : Option ℕ) → struct_of t ≡ o → with_struct e o ≡ Some x → IsHolder Form-F.Field x
+    by : (o : Option ℕ) → struct_of t ≡ o → with_struct e (known_struct o) ≡ Some x → Holds Form-F.Field x
     by None st has = absurd (none_some has)
     by (Some k) st has =
-        subst (IsHolder Form-F.Field) (some_is has) (record { object = t; struct = st; known = place_object w c linked e t is at; layer = λ n s f. (t, at, f); operands = λ n. one w c linked e is })
+        subst (Holds Form-F.Field) (some_is has) (k, refl, record { object = t; struct = st; known = place_object w c linked e t is at; layer = λ n s f. (t, at, f); operands = λ n. one w c linked e is })
   holder_at e ExprType.Int x is at has = absurd (none_some has)
   holder_at e ExprType.Null x is at has = absurd (none_some has)
   holder_at e (ExprType.Pointer t) x is at has = absurd (none_some has)
   holder_at e ExprType.Void x is at has = absurd (none_some has)
+  holder_at e ExprType.Unknown x is at has = absurd (no_unknown w c linked e is at)
 
-  holder_behind : (e : Expr) (s : ExprType) (x : Expr × ℕ) → IsExpr c e → e.typing ≡ s → with_struct e (struct_behind s) ≡ Some x → IsHolder Form-F.Arrow x
+  holder_behind : (e : Expr) (s : ExprType) (x : Expr × Option ℕ) → IsExpr c e → e.typing ≡ s → with_struct e (struct_behind s) ≡ Some x → Holds Form-F.Arrow x
   holder_behind e (ExprType.Pointer t) x is at has = by (struct_of t) refl has where
-    by : (o : Option ℕ) → struct_of t ≡ o → with_struct e o ≡ Some x → IsHolder Form-F.Arrow x
+    by : (o : Option ℕ) → struct_of t ≡ o → with_struct e (known_struct o) ≡ Some x → Holds Form-F.Arrow x
     by None st has = absurd (none_some has)
     by (Some k) st has =
-        subst (IsHolder Form-F.Arrow) (some_is has) (record { object = t; struct = st; known = pointer_object w c linked e t is at; layer = λ n s f. (t, at, f); operands = λ n. one w c linked e is })
+        subst (Holds Form-F.Arrow) (some_is has) (k, refl, record { object = t; struct = st; known = pointer_object w c linked e t is at; layer = λ n s f. (t, at, f); operands = λ n. one w c linked e is })
   holder_behind e ExprType.Int x is at has = absurd (none_some has)
   holder_behind e ExprType.Null x is at has = absurd (none_some has)
   holder_behind e (ExprType.Place t) x is at has = absurd (none_some has)
   holder_behind e ExprType.Void x is at has = absurd (none_some has)
+  holder_behind e ExprType.Unknown x is at has = absurd (no_unknown w c linked e is at)
 
   sound_field : (line : Line) (f : Ident) (r : Reading) → IsSound w c r → Pure w c (field_of w f Form-F.Field (obeys mismatch line (λ h e. with_struct e (struct_at e.typing)) r.plain)) (IsExpr c)
   sound_field line f r is =
@@ -159,9 +171,9 @@ module _ (w : Whole) (c : Context) (linked : IsLinked w c) where
   -- Names.
   variable_known : (v : Variable) (e : Expr) (i : Ident) (here : Place) → IsBound c v → ((name_as i (Meaning.object v)).judge here).value ≡ Some e → IsExpr c e
   variable_known (Variable.global k t) e i here is has =
-      subst (IsExpr c) (some_is has) (made_known w c linked (ExprType.Place t) (Form-F.Global k) (linked.globals k t is) (t, is, refl) none)
+      subst (IsExpr c) (ap (λ s. made s (Form-F.Global k)) (sym (place_is w c linked t (linked.globals k t is).base)) ∙ some_is has) (made_known w c linked (ExprType.Place t) (Form-F.Global k) (linked.globals k t is) (t, is, refl) none)
   variable_known (Variable.local k t) e i here is has =
-      subst (IsExpr c) (some_is has) (made_known w c linked (ExprType.Place t) (Form-F.Local k) (linked.variables k t is) (t, is, refl) none)
+      subst (IsExpr c) (ap (λ s. made s (Form-F.Local k)) (sym (place_is w c linked t (linked.variables k t is).base)) ∙ some_is has) (made_known w c linked (ExprType.Place t) (Form-F.Local k) (linked.variables k t is) (t, is, refl) none)
 
   name_known : (i : Ident) (here : Place) (e : Expr) (o : Option Variable) (b : Option Builtin) (r : Option Signature) → ((v : Variable) → o ≡ Some v → IsBound c v)
       → ((name_as i (elim o as (λ o. Meaning) [
@@ -211,6 +223,7 @@ module _ (w : Whole) (c : Context) (linked : IsLinked w c) where
   put_known e ExprType.Null v is at has = absurd (none_some has)
   put_known e (ExprType.Pointer t) v is at has = absurd (none_some has)
   put_known e ExprType.Void v is at has = absurd (none_some has)
+  put_known e ExprType.Unknown v is at has = absurd (no_unknown w c linked e is at)
 
   puts_known : (es : List Expr) (v : Expr) → AreExprs c es → put es ≡ Some v → IsExpr c v
   puts_known [] v all has = absurd (none_some has)
@@ -223,20 +236,22 @@ module _ (w : Whole) (c : Context) (linked : IsLinked w c) where
   freed_known e (ExprType.Place t) v is at has = absurd (none_some has)
   freed_known e ExprType.Int v is at has = absurd (none_some has)
   freed_known e ExprType.Void v is at has = absurd (none_some has)
+  freed_known e ExprType.Unknown v is at has = absurd (no_unknown w c linked e is at)
 
   frees_known : (es : List Expr) (v : Expr) → AreExprs c es → freed es ≡ Some v → IsExpr c v
   frees_known [] v all has = absurd (none_some has)
   frees_known (e ∷ []) v all has = freed_known e e.typing v (first_known e [] all) refl has
   frees_known (e ∷ f ∷ es) v all has = absurd (none_some has)
 
-  scalar_result : (t : ObjectType) (ls : List ℕ) (o : Option ExprType) → IsBase c.structs t.base → scalar_by t ls ≡ o → IsTyping c.structs (elim o as (λ o. ExprType) [ None ↦ ExprType.Void | Some v ↦ v ])
-  scalar_result t ls None is at = tt
-  scalar_result t [] (Some v) is at = scalar_typing w c linked t.base t.stars v is at
-  scalar_result t (n ∷ ns) (Some v) is at = absurd (none_some at)
+  scalar_result : (t : ObjectType) (ls : List ℕ) (o : Option ExprType) → IsBase c.structs t.base → elim o as (λ o. Bool) [ None ↦ false | Some v ↦ true ] ≡ true → scalar_by t ls ≡ o
+      → IsTyping c.structs (elim o as (λ o. ExprType) [ None ↦ ExprType.Unknown | Some v ↦ v ])
+  scalar_result t ls None is scalar at = subst (λ b. elim b as (λ b. Type 0) [ true ↦ ⊥ | false ↦ Unit {0} ]) scalar tt
+  scalar_result t [] (Some v) is scalar at = scalar_typing w c linked t.base t.stars v is at
+  scalar_result t (n ∷ ns) (Some v) is scalar at = absurd (none_some at)
 
-  result_typing : (o : Option ObjectType) → ((t : ObjectType) → o ≡ Some t → IsBase c.structs t.base) → IsTyping c.structs (called_type o)
+  result_typing : (o : Option ObjectType) → ((t : ObjectType) → o ≡ Some t → IsBase c.structs t.base × (is_scalar t ≡ true)) → IsTyping c.structs (called_type o)
   result_typing None is = tt
-  result_typing (Some t) is = scalar_result t t.lengths (scalar_type t) (is t refl) refl
+  result_typing (Some t) is = let r = is t refl in scalar_result t t.lengths (scalar_type t) r.0 r.1 refl
 
   not_main : (x k : ℕ) (s : Signature) → IsFunctionOf w x k s → is_main w x ≡ false → k ≢ c.main
   not_main x k s is no_main at =
@@ -263,12 +278,13 @@ module _ (w : Whole) (c : Context) (linked : IsLinked w c) where
   allocated_known item None v is has = new_known (record { item = item; count = None }) v is tt has
   allocated_known item (Some n) v is has = by n.typing refl has where
     by : (s : ExprType) → n.typing ≡ s
-        → elim s as (λ s. Option Expr) [ ExprType.Int ↦ Some (made (ExprType.Pointer item) (Form-F.New item (Some n))) | _ ↦ None ] ≡ Some v → IsExpr c v
+        → elim s as (λ s. Option Expr) [ ExprType.Int ↦ Some (made (ExprType.Pointer item) (Form-F.New item (Some n))) | ExprType.Unknown ↦ Some (made (ExprType.Pointer item) (Form-F.New item (Some n))) | _ ↦ None ] ≡ Some v → IsExpr c v
     by ExprType.Int at has = new_known (record { item = item; count = Some n }) v is at has
     by (ExprType.Place t) at has = absurd (none_some has)
     by ExprType.Null at has = absurd (none_some has)
     by (ExprType.Pointer t) at has = absurd (none_some has)
     by ExprType.Void at has = absurd (none_some has)
+    by ExprType.Unknown at has = absurd (no_unknown w c linked n is.count at)
 
   called_arguments : (rs : List Reading) → AllSound rs → Pure w c (called (arguments rs)) (AreExprs c)
   called_arguments rs all = sound_called (arguments rs) (AreExprs c) (sound_arguments rs all)

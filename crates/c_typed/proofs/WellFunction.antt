@@ -43,7 +43,7 @@ pub record IsTabled (w : Whole) (t : Typed) : Type 0 where
   pub members : (k n : ℕ) (d : Struct) (o : ObjectType) → slice_get t.structs k ≡ Some d → slice_get d.fields n ≡ Some o → IsObject t.structs o
   pub words : (k : ℕ) → get_or (sizes_in t.structs) k 0 ≤ type_limit
   pub functions : (k : ℕ) (s : Signature) → slice_get w.functions k ≡ Some s → slice_get (map callee_of t.functions) k ≡ Some (record { result = s.result; parameters = s.parameters })
-  pub results : (k : ℕ) (s : Signature) (o : ObjectType) → slice_get w.functions k ≡ Some s → s.result ≡ Some o → IsBase t.structs o.base
+  pub results : (k : ℕ) (s : Signature) (o : ObjectType) → slice_get w.functions k ≡ Some s → s.result ≡ Some o → IsBase t.structs o.base × (is_scalar o ≡ true)
   pub main : t.main ≡ main_number w
   pub globals : (k : ℕ) (o : ObjectType) → slice_get (map (λ g. g.object) t.globals) k ≡ Some o → IsObject t.structs o
 

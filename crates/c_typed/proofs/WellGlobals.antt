@@ -60,6 +60,7 @@ by_zero (Some (ExprType.Pointer t)) x k no_int e = null_zero x k e
 by_zero (Some (ExprType.Place t)) x k no_int e = absurd (none_some e)
 by_zero (Some ExprType.Null) x k no_int e = absurd (none_some e)
 by_zero (Some ExprType.Void) x k no_int e = absurd (none_some e)
+by_zero (Some ExprType.Unknown) x k no_int e = absurd (none_some e)
 
 start_zero : (t : ObjectType) (v : Option SourceExpr) (k : ℤ) → int_by (scalar_type t) ≡ false → start_of t v ≡ Some k → k ≡ pos 0
 start_zero t None k no_int e = sym (some_is e)

@@ -25,7 +25,7 @@ use Rattle.c_typed.proofs.Balanced.{Balanced}
 use Rattle.c_typed.proofs.BalancedStmts.{balanced_quiet, join, balanced_local_decl, balanced_start, balanced_stmt, quiet_condition_there, quiet_step}
 use Rattle.c_typed.proofs.WellParts.{Pure, pure_given, pure_tokens, pure_map, pure_joined}
 use Rattle.c_typed.proofs.WellTypes.{IsLinked}
-use Rattle.c_typed.proofs.WellStmts.{Sound, round, unless_none, not_true, sound_of, sound_tokens, sound_mark, sound_joined, sound_map, sound_obeys, sound_with, stmt_made, empty_known, value_pure, condition_pure, Anywhere, simple_pure, AreHere}
+use Rattle.c_typed.proofs.WellStmts.{Sound, round, unless_none, not_true, sound_of, sound_tokens, sound_mark, sound_joined, sound_map, sound_obeys, sound_with, stmt_made, empty_known, value_pure, condition_pure, Anywhere, simple_pure, IsSimple, step_is, AreHere}
 use Rattle.c_typed.proofs.WellBlocks.{IsHere, here_before, sound_here, sound_local_decl, AllWell, AllBranches, sound_body, sound_block, sound_branch, sound_par, returned_known, IfExpr}
 
 length_map : {A B : Type 0} (f : A → B) (xs : List A) → length (map f xs) ≡ length xs
@@ -45,6 +45,13 @@ module _ (w : Whole) (c : Context) (linked : IsLinked w c) where
   step_pure : (s : Option Simple) → Pure w c (step w s) (Anywhere w c linked)
   step_pure None = pure_map w c (λ _. empty) (tokens 0) {Q = Anywhere w c linked} (pure_tokens w c 0) (λ u is r. empty_known c r)
   step_pure (Some s) = simple_pure w c linked s
+
+  -- and what it is
+  abbrev IsStep : Stmt → Type 0
+  IsStep s = Anywhere w c linked s × IsSimple s
+
+  simple_step : (o : Option Simple) → Pure w c (step w o) IsStep
+  simple_step o = let is = step_pure o in record { quiet = is.quiet; sound = λ here st s e. (is.sound here st s e, step_is w o here s e) }
 
   sound_start : (s : ForStart) → Sound w c (start w s) (λ h s. Anywhere w c linked s)
   sound_start (ForStart.Decl d) = sound_local_decl w c linked d
@@ -133,15 +140,15 @@ module _ (w : Whole) (c : Context) (linked : IsLinked w c) where
       let three = join (join (join two Balanced.none) (balanced_quiet (quiet_step w last))) Balanced.none in
       sound_map w c (λ s. roll-Stmt (Stmt-F.For line s.0.0.0 s.0.0.1 s.0.1 s.1))
       (mark (opens loop) ⊗> tokens 2 ⊗> start w first ⊗ condition_there w o <⊗ tokens 1 ⊗ step w last <⊗ tokens 1 ⊗ b <⊗ mark closes)
-      {P = λ h s. Anywhere w c linked s.0.0.0 × IsConditionThere c s.0.0.1 × Anywhere w c linked s.0.1 × IsLooped h s.1} {Q = IsHere w c linked}
+      {P = λ h s. Anywhere w c linked s.0.0.0 × IsConditionThere c s.0.0.1 × IsStep s.0.1 × IsLooped h s.1} {Q = IsHere w c linked}
       (sound_joined w c (λ a b. a) (mark (opens loop) ⊗> tokens 2 ⊗> start w first ⊗ condition_there w o <⊗ tokens 1 ⊗ step w last <⊗ tokens 1 ⊗ b) (mark closes)
-      {R = λ h s. Anywhere w c linked s.0.0.0 × IsConditionThere c s.0.0.1 × Anywhere w c linked s.0.1 × IsLooped h s.1}
+      {R = λ h s. Anywhere w c linked s.0.0.0 × IsConditionThere c s.0.0.1 × IsStep s.0.1 × IsLooped h s.1}
       (sound_joined w c (λ a b. (a, b)) (mark (opens loop) ⊗> tokens 2 ⊗> start w first ⊗ condition_there w o <⊗ tokens 1 ⊗ step w last <⊗ tokens 1) b
-      {R = λ h s. Anywhere w c linked s.0.0.0 × IsConditionThere c s.0.0.1 × Anywhere w c linked s.0.1 × IsLooped h s.1}
+      {R = λ h s. Anywhere w c linked s.0.0.0 × IsConditionThere c s.0.0.1 × IsStep s.0.1 × IsLooped h s.1}
       (sound_joined w c (λ a b. a) (mark (opens loop) ⊗> tokens 2 ⊗> start w first ⊗ condition_there w o <⊗ tokens 1 ⊗ step w last) (tokens 1)
-      {R = λ h s. Anywhere w c linked s.0.0 × IsConditionThere c s.0.1 × Anywhere w c linked s.1}
+      {R = λ h s. Anywhere w c linked s.0.0 × IsConditionThere c s.0.1 × IsStep s.1}
       (sound_joined w c (λ a b. (a, b)) (mark (opens loop) ⊗> tokens 2 ⊗> start w first ⊗ condition_there w o <⊗ tokens 1) (step w last)
-      {R = λ h s. Anywhere w c linked s.0.0 × IsConditionThere c s.0.1 × Anywhere w c linked s.1}
+      {R = λ h s. Anywhere w c linked s.0.0 × IsConditionThere c s.0.1 × IsStep s.1}
       (sound_joined w c (λ a b. a) (mark (opens loop) ⊗> tokens 2 ⊗> start w first ⊗ condition_there w o) (tokens 1) {R = λ h s. Anywhere w c linked s.0 × IsConditionThere c s.1}
       (sound_joined w c (λ a b. (a, b)) (mark (opens loop) ⊗> tokens 2 ⊗> start w first) (condition_there w o) {R = λ h s. Anywhere w c linked s.0 × IsConditionThere c s.1}
       (sound_joined w c (λ a b. b) (mark (opens loop) ⊗> tokens 2) (start w first) {R = λ h s. Anywhere w c linked s}
@@ -149,15 +156,15 @@ module _ (w : Whole) (c : Context) (linked : IsLinked w c) where
       (sound_start first) (λ h a s x y. y))
       (sound_of w c (condition_there w o) {Q = λ h d. IsConditionThere c d} (condition_there_pure o) (λ h d x. x)) (λ h a b x y. (x, y)))
       (sound_tokens w c 1) (λ h a b x y. x))
-      (sound_of w c (step w last) {Q = λ h s. Anywhere w c linked s} (step_pure last) (λ h s x. x)) (λ h a b x y. (x.0, x.1, y)))
+      (sound_of w c (step w last) {Q = λ h s. IsStep s} (simple_step last) (λ h s x. x)) (λ h a b x y. (x.0, x.1, y)))
       (sound_tokens w c 1) (λ h a b x y. x)) is
       (λ h a s x y. (x.0, x.1, x.2, here_before w c linked (opens loop ∷ h) s three y)))
       (sound_mark w c closes) (λ h a b x y. x))
       (λ h s is.
       let r = out_of_loop (round h) in
       let inner = in_loop_of (round h) in
-      stmt_made w c (round h) (Stmt-F.For line s.0.0.0 s.0.0.1 s.0.1 s.1) is.1
-      (AreStmts.each (r, s.0.0.0) ((r, s.0.1) ∷ (inner, s.1) ∷ []) (is.0 r) (AreStmts.each (r, s.0.1) ((inner, s.1) ∷ []) (is.2 r) (AreStmts.each (inner, s.1) [] is.3 AreStmts.none))))
+      stmt_made w c (round h) (Stmt-F.For line s.0.0.0 s.0.0.1 s.0.1 s.1) (is.1, is.2.1)
+      (AreStmts.each (r, s.0.0.0) ((r, s.0.1) ∷ (inner, s.1) ∷ []) (is.0 r) (AreStmts.each (r, s.0.1) ((inner, s.1) ∷ []) (is.2.0 r) (AreStmts.each (inner, s.1) [] is.3 AreStmts.none))))
 
   -- A statement and what is known of it.
   abbrev StmtSound : SourceStmt → Type 0

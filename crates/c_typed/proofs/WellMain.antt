@@ -1,7 +1,10 @@
--- `main` of a program that breaks no rule is defined, and has no parameters.
+-- `main` of a program that breaks no rule is defined, has no parameters, and its result is `int`.
 use Rattle.std.proofs.Common.{◌≡◌, ℕ, zero, suc, ◌<◌, ◌≤◌, Bool, true, false, ◌&&◌, ◌||◌, not, List, [], ◌∷◌, ◌++◌, map, take, length, Some, refl, ap, sym, ◌∙◌, subst, arith}
 use Rattle.std.specs.Prelude.{slice_get, nat_lt}
+use Rattle.std.proofs.lemmas.Bool.Decides.{nat_tests}
+use Rattle.c_ast.specs.declared.decl.Base.{Base}
 use Rattle.c_ast.specs.declared.decl.Params.{Params}
+use Rattle.c_ast.specs.declared.decl.ResultType.{ResultType}
 use Rattle.c_ast.specs.declared.program.Function.{Function as SourceFunction}
 use Rattle.c_ast.specs.declared.program.Item.{Item}
 use Rattle.c_typed.specs.declared.fault.BigWhat.{BigWhat}
@@ -17,7 +20,7 @@ use Rattle.c_typed.specs.Parts.{Place, behind}
 use Rattle.c_typed.specs.Programs as programs
 use Rattle.c_typed.specs.Programs.{function_text, item, result_base, main_number, function_limit}
 use Rattle.c_typed.specs.Typed.{Typed}
-use Rattle.c_typed.specs.IsWell.{Callee, callee_of, objects_of}
+use Rattle.c_typed.specs.IsWell.{Callee, callee_of, objects_of, IsIntResult}
 use Rattle.c_typed.proofs.WellParts.{none_first, none_second, none_some, some_is, none_each}
 use Rattle.c_typed.proofs.WellStmts.{unless_none}
 use Rattle.c_typed.proofs.WellForms.{main_found}
@@ -32,13 +35,25 @@ plain_when true true false plain e is = absurd (false_true e)
 plain_when true false int plain e is = absurd (false_true is)
 plain_when false main int plain e is = absurd (false_true e)
 
+int_when : (scalar main int plain : Bool) → scalar && (not main || (int && plain)) ≡ true → main ≡ true → int ≡ true
+int_when true true true plain e is = refl
+int_when true true false plain e is = absurd (false_true e)
+int_when true false int plain e is = absurd (false_true is)
+int_when false main int plain e is = absurd (false_true e)
+
+int_result : (tags : List ℕ) (r : ResultType) → programs.is_int r ≡ true → IsIntResult (result_type tags r)
+int_result tags (ResultType.Type (Base.Int line) zero) e = refl
+int_result tags (ResultType.Type (Base.Int line) (suc n)) e = absurd (grind (arith, nat_tests, e))
+int_result tags (ResultType.Type (Base.Struct line tag) n) e = absurd (false_true e)
+int_result tags (ResultType.Void line) e = absurd (false_true e)
+
 no_types : (tags : List ℕ) (ps : Params) → programs.no_parameters ps ≡ true → parameter_types tags ps ≡ []
 no_types tags Params.Empty e = refl
 no_types tags (Params.Void line) e = refl
 no_types tags (Params.List ps) e = absurd (false_true e)
 
 abbrev IsPlain : Whole → Signature → Type 0
-IsPlain w s = is_main w s.name ≡ true → s.parameters ≡ []
+IsPlain w s = is_main w s.name ≡ true → (s.parameters ≡ []) × IsIntResult s.result
 
 get_there : {A : Type 0} (xs : List A) (k : ℕ) → k < length xs → (x : A) × (slice_get xs k ≡ Some x)
 get_there [] k less = absurd (omega (arith, less))
@@ -70,8 +85,10 @@ module _ (w : Whole) (structs : List Struct) (shaped : IsShaped w structs) where
       let two = unless test there.at faults.mismatch x.line in
       let three = unless (nat_lt (functions_in there.before) function_limit) there.at (faults.big BigWhat.Functions) x.line in
       let kept = unless_none test there.at faults.mismatch x.line (none_second one two (none_first (one ++ two) three (own_faults w structs shaped f here e))) in
-      no_types w.tags f.params
-      (plain_when (programs.has_scalar_result result) (is_main w x.name) (programs.is_int f.result) (programs.no_parameters f.params) kept main)
+      let scalar = programs.has_scalar_result result in (
+        no_types w.tags f.params (plain_when scalar (is_main w x.name) (programs.is_int f.result) (programs.no_parameters f.params) kept main),
+        int_result w.tags f.result (int_when scalar (is_main w x.name) (programs.is_int f.result) (programs.no_parameters f.params) kept main),
+      )
 
   pub mains_plain : (is : List Item) (here : Place) → AllClean w is here → AllOf (IsPlain w) (signatures w.tags is)
   mains_plain [] here clean = tt
@@ -84,7 +101,7 @@ module _ (w : Whole) (structs : List Struct) (shaped : IsShaped w structs) where
 pub main_there : (w : Whole) (t : Typed) → AllOf (IsPlain w) w.functions → t.main ≡ main_number w → main_number w < length w.functions
     → ((k : ℕ) (s : Signature) → slice_get w.functions k ≡ Some s → slice_get (map callee_of t.functions) k ≡ Some (record { result = s.result; parameters = s.parameters }))
     → ((f : Function) → slice_get t.functions t.main ≡ Some f → f.parameters ≤ length f.variables)
-    → (f : Function) × (slice_get t.functions t.main ≡ Some f) × (f.parameters ≡ 0)
+    → (f : Function) × (slice_get t.functions t.main ≡ Some f) × (f.parameters ≡ 0) × IsIntResult f.result
 main_there w t plain same less callees few =
     let s = get_there w.functions (main_number w) less in
     let none = all_at (IsPlain w) w.functions plain (main_number w) s.0 s.1 (main_found w w.functions s.0 s.1) in
@@ -92,4 +109,4 @@ main_there w t plain same less callees few =
     let there : slice_get t.functions t.main ≡ Some f.0 = ap (slice_get t.functions) same ∙ f.1 in
     let le : f.0.parameters ≤ length (objects_of f.0.variables) =
     subst (λ n. f.0.parameters ≤ n) (sym (length_map (λ (v : Rattle.c_typed.specs.declared.program.Variable.Variable). v.object) f.0.variables)) (few f.0 there) in
-    (f.0, there, none_taken f.0.parameters (objects_of f.0.variables) le (ap (λ (c : Callee). c.parameters) f.2 ∙ none))
+    (f.0, there, none_taken f.0.parameters (objects_of f.0.variables) le (ap (λ (c : Callee). c.parameters) f.2 ∙ none.0), subst IsIntResult (sym (ap (λ (c : Callee). c.result) f.2)) none.1)

@@ -40,6 +40,7 @@ use Rattle.c_typed.proofs.Quiet.{quiet, quiet_base, no_marks}
 use Rattle.c_typed.proofs.Balanced.{Balanced, marked_append, unchanged, tags_outside}
 use Rattle.c_typed.proofs.BalancedStmts.{balanced_quiet, join, balanced_local_item, balanced_parameter, balanced_separated, all_balanced, quiet_simple, quiet_condition_there, quiet_value_there, quiet_step}
 use Rattle.c_typed.proofs.WellParts.{none_each, none_first, none_second, ruled_faults}
+use Rattle.c_typed.proofs.WellTypes.{struct_is}
 use Rattle.c_typed.proofs.WellStmts.{unless_none}
 
 pub false_true : false ≡ true → ⊥
@@ -80,7 +81,7 @@ module _ (w : Whole) (structs : List Struct) (shaped : IsShaped w structs) where
   pub base_known : (by_value : Bool) (b : Base) (here : Place) → Tagged w here.before → ((base w by_value b).judge here).faults ≡ [] → IsBase structs (base_type w.tags b)
   base_known by_value (Base.Int line) here is e = tt
   base_known by_value (Base.Struct line tag) here is e =
-      subst (λ n. place_of tag.name w.tags < n) shaped.count (base_when tag tag.line here.before by_value (is_tag w here.before by_value tag.name) (here.at + 1) is refl e)
+      struct_is structs (length w.tags) (place_of tag.name w.tags) (base_when tag tag.line here.before by_value (is_tag w here.before by_value tag.name) (here.at + 1) is refl e) shaped.count
 
   -- The variables that marks declare.
   abbrev pub Declared : History → List Mark → Type 0
@@ -219,6 +220,7 @@ module _ (w : Whole) (structs : List Struct) (shaped : IsShaped w structs) where
   pub scalar_words : (b : BaseType) (n : ℕ) → IsBase structs b → is_scalar (record { base = b; stars = n; lengths = [] }) ≡ true → IsObject structs (record { base = b; stars = n; lengths = [] })
   scalar_words BaseType.Int zero is e = record { base = is; lengths = All-nil (λ n. 0 < n); words = omega arith }
   scalar_words (BaseType.Struct k) zero is e = absurd (false_true e)
+  scalar_words BaseType.Unknown zero is e = absurd is
   scalar_words b (suc n) is e = record { base = is; lengths = All-nil (λ n. 0 < n); words = omega arith }
 
   declares_parameter : (p : Param) → Declares (parameter w p)

@@ -1,5 +1,5 @@
 -- Every typed program is well-formed.
-use Rattle.std.proofs.Common.{◌≡◌, ℕ, ◌+◌, ◌<◌, ◌≤◌, List, [], ◌∷◌, map, length, Some, refl, sym, subst, arith}
+use Rattle.std.proofs.Common.{◌≡◌, ℕ, ◌+◌, ◌<◌, ◌≤◌, List, [], ◌∷◌, map, length, Some, refl, ap, sym, subst, arith}
 use Rattle.std.specs.Prelude.{slice_get, nat_lt}
 use Rattle.std.proofs.lemmas.Bool.Decides.{nat_tests}
 use Rattle.c_ast.specs.Ast.{Ast, IsBuilt}
@@ -10,10 +10,10 @@ use Rattle.c_typed.specs.declared.program.Function.{Function}
 use Rattle.c_typed.specs.Whole.{Whole, Member, members, whole_of, struct_defs}
 use Rattle.c_typed.specs.Faults.{unless, no_main}
 use Rattle.c_typed.specs.Decls.{type_limit}
-use Rattle.c_typed.specs.Programs.{struct_by, text, judged, main_number, faults_of, typed_of}
+use Rattle.c_typed.specs.Programs.{declaration_limit, struct_by, text, judged, main_number, faults_of, typed_of}
 use Rattle.c_typed.specs.Typed.{Typed}
 use Rattle.c_typed.specs.Checks.{IsTyped}
-use Rattle.c_typed.specs.IsWell.{IsObject, IsStruct, IsGlobal, IsFunction, IsWell, words_in}
+use Rattle.c_typed.specs.IsWell.{IsObject, IsStruct, IsGlobal, IsFunction, IsIntResult, IsWell, words_in, declared_in, declared_functions, declarations}
 use Rattle.c_typed.proofs.WellParts.{none_second}
 use Rattle.c_typed.proofs.WellStmts.{unless_none}
 use Rattle.c_typed.proofs.WellFunctions.{AllOf, all_at, all_from}
@@ -22,6 +22,8 @@ use Rattle.c_typed.proofs.WellStructs.{IsStructured, sizes_limited}
 use Rattle.c_typed.proofs.WellEarlier.{Earlier, EarlierFrom, all_structs_earlier, earlier_at}
 use Rattle.c_typed.proofs.WellSizes.{HasWords, words_all, sizes_positive, all_some}
 use Rattle.c_typed.proofs.WellMain.{mains_plain, main_there}
+use Rattle.c_typed.proofs.WellTexts.{objects_same}
+use Rattle.c_typed.proofs.Declared.{items_declare}
 use Rattle.c_typed.proofs.WellTyped as typed
 use Rattle.c_typed.proofs.WellTyped.{limits_of, typed_globals, typed_tabled, typed_functions, typed_global_words, typed_few_functions}
 
@@ -87,10 +89,18 @@ module _ (a : Ast) (built : IsBuilt a.items a.names) (keeps : faults_of a ≡ []
       (none_second (judged w a.items).faults (unless (nat_lt (main_number w) (length w.functions)) (text w a.items).tokens no_main a.last) keeps) in
       grind (arith, nat_tests, test)
 
-  main_well : (f : Function) × (slice_get t.functions t.main ≡ Some f) × (f.parameters ≡ 0)
+  main_well : (f : Function) × (slice_get t.functions t.main ≡ Some f) × (f.parameters ≡ 0) × IsIntResult f.result
   main_well =
       main_there w t (mains_plain w t.structs shape a.items typed.start (typed.clean a keeps)) refl main_less (typed_tabled a keeps).functions
       (λ f e. (all_at (IsFunction t) t.functions (typed_functions a keeps) t.main f e).parameters)
+
+  few_declared : declarations t ≤ declaration_limit
+  few_declared =
+      let globals = ap declared_in (objects_same w t.structs shape a.items typed.start (typed.tagged a keeps) (typed.clean a keeps)) in
+      let functions = ap declared_functions (typed.functions_are a keeps) in
+      let all = items_declare w a.items w.sizes typed.start (typed.value a keeps).value (typed.value a keeps).there in
+      let few = built.few in
+      omega (arith, globals, functions, all, few)
 
   program_well : IsWell t
   program_well = record {
@@ -99,6 +109,7 @@ module _ (a : Ast) (built : IsBuilt a.items a.names) (keeps : faults_of a ≡ []
     global_words = typed_global_words a keeps;
     functions = all_from (IsFunction t) t.functions (all_at (IsFunction t) t.functions (typed_functions a keeps));
     few_functions = typed_few_functions a keeps;
+    few_declarations = few_declared;
     main = main_well;
   }
 

@@ -26,6 +26,7 @@ Agree n xs ys = (j : ℕ) → j < n → get_or xs j 0 ≡ get_or ys j 0
 item_same : (n : ℕ) (xs ys : List ℕ) → Agree n xs ys → (b : BaseType) (stars : ℕ) → IsEarlier n b stars → item_words xs b stars ≡ item_words ys b stars
 item_same n xs ys same BaseType.Int zero is = refl
 item_same n xs ys same (BaseType.Struct j) zero is = same j is
+item_same n xs ys same BaseType.Unknown zero is = refl
 item_same n xs ys same b (suc s) is = refl
 
 members_same : (n : ℕ) (xs ys : List ℕ) → Agree n xs ys → (ms : List Member) → AllOf (Earlier n) (map (λ m. m.object) ms) → members_words xs ms ≡ words_in ys (map (λ m. m.object) ms)
@@ -98,6 +99,7 @@ get_positive (x ∷ xs) (suc j) all less = get_positive xs j all.1 (omega (arith
 item_positive : (xs : List ℕ) → Positive xs → (b : BaseType) (stars : ℕ) → IsEarlier (length xs) b stars → 1 ≤ item_words xs b stars
 item_positive xs all BaseType.Int zero is = omega arith
 item_positive xs all (BaseType.Struct j) zero is = get_positive xs j all is
+item_positive xs all BaseType.Unknown zero is = absurd is
 item_positive xs all b (suc s) is = omega arith
 
 members_positive : (structs : List Struct) (xs : List ℕ) (ms : List Member) → 1 ≤ length ms → AllOf (IsObject structs) (map (λ m. m.object) ms) → AllOf (Earlier (length xs)) (map (λ m. m.object) ms) → Positive xs

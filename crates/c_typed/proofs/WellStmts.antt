@@ -13,7 +13,7 @@ use Rattle.c_typed.specs.declared.expr.Expr.{Expr}
 use Rattle.c_typed.specs.declared.expr.Form.{out-Form, out-roll-Form}
 use Rattle.c_typed.specs.declared.expr.Form.TheOpen.{Form-F}
 use Rattle.c_typed.specs.declared.stmt.Condition.{Condition}
-use Rattle.c_typed.specs.declared.stmt.Stmt.{Stmt, roll-Stmt, out-roll-Stmt}
+use Rattle.c_typed.specs.declared.stmt.Stmt.{Stmt, roll-Stmt, out-Stmt, out-roll-Stmt}
 use Rattle.c_typed.specs.declared.stmt.Stmt.TheOpen.{Stmt-F}
 use Rattle.c_typed.specs.Types.{scalar_type, fits, suits, suits_some, is_truth}
 use Rattle.c_typed.specs.Marks.{Mark, History, locals_in, around, in_loop, in_branch}
@@ -23,8 +23,8 @@ use Rattle.c_typed.specs.Parts.{Place, Part, marked, tokens, mark, joined, behin
 use Rattle.c_typed.specs.Exprs
 use Rattle.c_typed.specs.Exprs.{made, Size, Reading, value, place, expr, call, call_as, applied, asked, put, put_by, freed, freed_by, allocated, allocation, allocation_by, arguments, called, all_fit}
 use Rattle.c_typed.specs.Decls.{declared, starts_with, valued}
-use Rattle.c_typed.specs.Stmts.{tested, condition, assigned, assigns_scalar, scalar_at, counted, simple}
-use Rattle.c_typed.specs.IsWell.{Context, Round, IsExpr, AreExprs, IsCondition, IsTarget, is_call, IsStmtLayer, placed, stmts_of, IsStmt, AreStmts, known, each}
+use Rattle.c_typed.specs.Stmts.{tested, condition, assigned, assigns_scalar, scalar_at, counted, simple, step}
+use Rattle.c_typed.specs.IsWell.{Context, Round, IsExpr, AreExprs, IsCondition, IsTarget, is_call, is_simple, IsStmtLayer, placed, stmts_of, IsStmt, AreStmts, known, each}
 use Rattle.c_typed.proofs.Balanced.{Balanced, around_behind}
 use Rattle.c_typed.proofs.WellParts.{none_some, some_is, none_each, none_first, none_second, Stands, Kept, kept_first, kept_second, stands_behind, both_are, changed_is, ruled_is, ruled_faults, Pure, pure_tokens, pure_joined, pure_map, pure_obeys}
 use Rattle.c_typed.proofs.WellTypes.{IsLinked, made_known}
@@ -111,6 +111,53 @@ empty_known c r = stmt_made' c r where
       known r (roll-Stmt (Stmt-F.Block [])) (subst (IsStmtLayer c r) (sym (out-roll-Stmt (Stmt-F.Block []))) tt)
       (subst (λ x. AreStmts c (stmts_of r x)) (sym (out-roll-Stmt (Stmt-F.Block []))) AreStmts.none)
 
+-- The step of a `for` is a simple statement.
+abbrev pub IsSimple : Stmt → Type 0
+IsSimple s = is_simple (out-Stmt s) ≡ true
+
+simple_made : (x : Stmt-F Stmt) (s : Stmt) → is_simple x ≡ true → roll-Stmt x ≡ s → IsSimple s
+simple_made x s is e = subst IsSimple e (ap is_simple (out-roll-Stmt x) ∙ is)
+
+simple_when : (x : Stmt-F Stmt) (s : Stmt) (b : Bool) → is_simple x ≡ true → elim b as (λ b. Option Stmt) [ true ↦ Some (roll-Stmt x) | false ↦ None ] ≡ Some s → IsSimple s
+simple_when x s true is e = simple_made x s is (some_is e)
+simple_when x s false is e = absurd (none_some e)
+
+simple_assigned : (line : Line) (op : AssignOp) (e v : Expr) (o : Option ExprType) (s : Stmt)
+    → elim o as (λ o. Option Stmt) [
+      | None ↦ None
+      | Some t ↦ elim (assigns_scalar op t v.typing) as (λ b. Option Stmt) [ true ↦ Some (roll-Stmt (Stmt-F.Assign line e op v)) | false ↦ None ]
+    ] ≡ Some s → IsSimple s
+simple_assigned line op e v None s has = absurd (none_some has)
+simple_assigned line op e v (Some t) s has = simple_when (Stmt-F.Assign line e op v) s (assigns_scalar op t v.typing) refl has
+
+simple_counted : (x : Stmt-F Stmt) (o : Option ExprType) (s : Stmt) → is_simple x ≡ true → elim o as (λ o. Option Stmt) [ None ↦ None | Some t ↦ Some (roll-Stmt x) ] ≡ Some s → IsSimple s
+simple_counted x None s is has = absurd (none_some has)
+simple_counted x (Some t) s is has = simple_made x s is (some_is has)
+
+counted_simple : (line : Line) (layer : Expr → Stmt-F Stmt) (p : Part Expr) (here : Place) (s : Stmt) → ((e : Expr) → is_simple (layer e) ≡ true)
+    → ((obeys mismatch line (λ h e. counted e (layer e)) p).judge here).value ≡ Some s → IsSimple s
+counted_simple line layer p here s is has =
+    let j = p.judge here in
+    let v = ruled_is mismatch line (λ e. counted e (layer e)) here.at j.faults j.value s has in
+    simple_counted (layer v.value) (scalar_at v.value.typing) s (is v.value) v.kept
+
+simple_is : (w : Whole) (t : Simple) (here : Place) (s : Stmt) → ((simple w t).judge here).value ≡ Some s → IsSimple s
+simple_is w (Simple.Assign line target op v) here s has =
+    let j = (place (expr w target) <⊗ tokens 1 ⊗ value (expr w v)).judge here in
+    let is = ruled_is mismatch line (λ (e : Expr × Expr). assigned line op e.0 e.1) here.at j.faults j.value s has in
+    simple_assigned line op is.value.0 is.value.1 (scalar_at is.value.0.typing) s is.kept
+simple_is w (Simple.Increment line target) here s has = counted_simple line (λ e. Stmt-F.Increment line e) (place (expr w target) <⊗ tokens 1) here s (λ e. refl) has
+simple_is w (Simple.Decrement line target) here s has = counted_simple line (λ e. Stmt-F.Decrement line e) (place (expr w target) <⊗ tokens 1) here s (λ e. refl) has
+simple_is w (Simple.PreIncrement line target) here s has = counted_simple line (λ e. Stmt-F.Increment line e) (tokens 1 ⊗> place (expr w target)) here s (λ e. refl) has
+simple_is w (Simple.PreDecrement line target) here s has = counted_simple line (λ e. Stmt-F.Decrement line e) (tokens 1 ⊗> place (expr w target)) here s (λ e. refl) has
+simple_is w (Simple.Call f args) here s has =
+    let v = changed_is (λ e. roll-Stmt (Stmt-F.Call f.line e)) ((call w f.line f (map (expr w) args)).judge here).value s has in
+    simple_made (Stmt-F.Call f.line v.value) s refl v.whole
+
+pub step_is : (w : Whole) (o : Option Simple) (here : Place) (s : Stmt) → ((step w o).judge here).value ≡ Some s → IsSimple s
+step_is w None here s has = simple_made (Stmt-F.Block []) s refl (some_is has)
+step_is w (Some t) here s has = simple_is w t here s has
+
 -- What is called.
 abbrev IsCalled : Expr → Type 0
 IsCalled e = is_call (out-Form e.form) ≡ true
@@ -128,6 +175,7 @@ put_call e (ExprType.Place t) v has = absurd (none_some has)
 put_call e ExprType.Null v has = absurd (none_some has)
 put_call e (ExprType.Pointer t) v has = absurd (none_some has)
 put_call e ExprType.Void v has = absurd (none_some has)
+put_call e ExprType.Unknown v has = subst IsCalled (some_is has) (made_call ExprType.Void (Form-F.PutInt e) refl)
 
 puts_call : (es : List Expr) (v : Expr) → put es ≡ Some v → IsCalled v
 puts_call [] v has = absurd (none_some has)
@@ -140,6 +188,7 @@ free_call e ExprType.Null v has = subst IsCalled (some_is has) (made_call ExprTy
 free_call e (ExprType.Place t) v has = absurd (none_some has)
 free_call e ExprType.Int v has = absurd (none_some has)
 free_call e ExprType.Void v has = absurd (none_some has)
+free_call e ExprType.Unknown v has = subst IsCalled (some_is has) (made_call ExprType.Void (Form-F.Free e) refl)
 
 frees_call : (es : List Expr) (v : Expr) → freed es ≡ Some v → IsCalled v
 frees_call [] v has = absurd (none_some has)
@@ -157,12 +206,13 @@ new_call s v has = subst IsCalled (some_is has) (made_call (ExprType.Pointer s.i
 allocated_call : (item : ObjectType) (o : Option Expr) (v : Expr) → allocated (record { item = item; count = o }) ≡ Some v → IsCalled v
 allocated_call item None v has = new_call (record { item = item; count = None }) v has
 allocated_call item (Some n) v has = by n.typing has where
-  by : (s : ExprType) → elim s as (λ s. Option Expr) [ ExprType.Int ↦ Some (made (ExprType.Pointer item) (Form-F.New item (Some n))) | _ ↦ None ] ≡ Some v → IsCalled v
+  by : (s : ExprType) → elim s as (λ s. Option Expr) [ ExprType.Int ↦ Some (made (ExprType.Pointer item) (Form-F.New item (Some n))) | ExprType.Unknown ↦ Some (made (ExprType.Pointer item) (Form-F.New item (Some n))) | _ ↦ None ] ≡ Some v → IsCalled v
   by ExprType.Int has = new_call (record { item = item; count = Some n }) v has
   by (ExprType.Place t) has = absurd (none_some has)
   by ExprType.Null has = absurd (none_some has)
   by (ExprType.Pointer t) has = absurd (none_some has)
   by ExprType.Void has = absurd (none_some has)
+  by ExprType.Unknown has = new_call (record { item = item; count = Some n }) v has
 
 allocation_call : (line : Line) (rs : List Reading) (o : Option (Part Size)) (here : Place) (v : Expr) → ((allocation_by line rs o).judge here).value ≡ Some v → IsCalled v
 allocation_call line rs None here v e = absurd (none_some e)

@@ -1,6 +1,6 @@
 -- The fields of structs that break no rule are well-formed, and so are the bases of the results of functions.
-use Rattle.std.proofs.Common.{◌≡◌, ℕ, zero, suc, ◌+◌, ◌*◌, ◌<◌, ◌≤◌, Bool, true, false, not, List, [], ◌∷◌, ◌++◌, map, length, get_or, Some, refl, ap, sym, ◌∙◌, subst, arith}
-use Rattle.std.specs.Prelude.{nat_eq, nat_le}
+use Rattle.std.proofs.Common.{◌≡◌, ℕ, zero, suc, ◌+◌, ◌*◌, ◌<◌, ◌≤◌, Bool, true, false, ◌&&◌, ◌||◌, not, List, [], ◌∷◌, ◌++◌, map, length, get_or, Option, Some, refl, ap, sym, ◌∙◌, subst, arith}
+use Rattle.std.specs.Prelude.{nat_eq, nat_le, nat_lt}
 use Rattle.std.proofs.lemmas.List.{append_assoc}
 use Rattle.std.proofs.lemmas.Bool.Decides.{nat_tests}
 use Rattle.c_ast.specs.declared.decl.Base.{Base}
@@ -17,7 +17,7 @@ use Rattle.c_typed.specs.declared.program.Struct.{Struct}
 use Rattle.c_typed.specs.Types.{place_of, base_type, declared_type, result_type, words_of, item_words, times}
 use Rattle.c_typed.specs.Marks as marks
 use Rattle.c_typed.specs.Marks.{Mark, field, History, field_words}
-use Rattle.c_typed.specs.Whole.{Whole, Member, member, members, members_words, sizes_of, Signature, signature, struct_defs}
+use Rattle.c_typed.specs.Whole.{Whole, Member, member, members, members_words, sizes_of, Signature, signature, struct_defs, is_main}
 use Rattle.c_typed.specs.Faults as faults
 use Rattle.c_typed.specs.Faults.{unless}
 use Rattle.c_typed.specs.Parts.{Place, marked, behind, tokens, mark, separated, in_turn, with_faults, ◌<⊗◌, ◌⊗>◌}
@@ -170,9 +170,9 @@ module _ (w : Whole) (structs : List Struct) (shaped : IsShaped w structs) where
         limit = subst (λ ts. words_in w.sizes ts ≤ type_limit) (sym (members_objects w.tags d.fields)) total;
       }
 
-  -- the base of a function's result
+  -- the base of a function's result, which is no struct
   abbrev pub HasResult : Signature → Type 0
-  HasResult s = (o : ObjectType) → s.result ≡ Some o → IsBase structs o.base
+  HasResult s = (o : ObjectType) → s.result ≡ Some o → IsBase structs o.base × (decls.is_scalar o ≡ true)
 
   result_base_known : (r : ResultType) (here : Place) (o : ObjectType) → Tagged w here.before → ((result_base w r).judge here).faults ≡ [] → result_type w.tags r ≡ Some o → IsBase structs o.base
   result_base_known (ResultType.Void line) here o tagged e same = absurd (Rattle.c_typed.proofs.WellParts.none_some same)
@@ -180,20 +180,36 @@ module _ (w : Whole) (structs : List Struct) (shaped : IsShaped w structs) where
       let bs = base w (nat_eq stars 0) b in
       subst (λ o. IsBase structs o.base) (Rattle.c_typed.proofs.WellParts.some_is same) (base_known w structs shaped (nat_eq stars 0) b here tagged (none_first (bs.judge here).faults [] e))
 
+  result_scalar : (a b : Bool) (r : Option ObjectType) (o : ObjectType) → a ≡ programs.has_scalar_result r → a && b ≡ true → r ≡ Some o → decls.is_scalar o ≡ true
+  result_scalar true b r o at kept same = sym (at ∙ ap programs.has_scalar_result same)
+  result_scalar false b r o at kept same = absurd (Rattle.c_typed.proofs.WellMarks.false_true kept)
+
   pub result_known : (f : SourceFunction) (here : Place) → Tagged w here.before → ((function_text w f (result_type w.tags f.result)).judge here).faults ≡ [] → HasResult (signature w.tags f)
   result_known f here tagged e o same =
+      let result = result_type w.tags f.result in
       let rb = result_base w f.result in
-      let named = with_faults (programs.function_faults w f f.name (result_type w.tags f.result)) (tokens 1 <⊗ mark (marks.function f.name.name (result_type w.tags f.result))) in
+      let there = behind rb here in
+      let x = f.name in
+      let own = programs.function_faults w f x result there in
+      let named = with_faults (programs.function_faults w f x result) (tokens 1 <⊗ mark (marks.function x.name result)) in
       let ps = programs.parameters w f.params in
       let two = rb ⊗> named in
       let three = two ⊗> tokens 1 in
       let four = three ⊗> ps in
       let five = four ⊗> tokens 1 in
       let six = five ⊗> programs.function_body w f.body in
-      result_base_known f.result here o tagged
-      (none_first (rb.judge here).faults (named.judge (behind rb here)).faults
-      (none_first (two.judge here).faults [] (none_first (three.judge here).faults (ps.judge (behind three here)).faults
-      (none_first (four.judge here).faults [] (none_first (five.judge here).faults ((programs.function_body w f.body).judge (behind five here)).faults (none_first (six.judge here).faults [] e)))))) same
+      let none =
+      none_first (two.judge here).faults [] (none_first (three.judge here).faults (ps.judge (behind three here)).faults
+      (none_first (four.judge here).faults [] (none_first (five.judge here).faults ((programs.function_body w f.body).judge (behind five here)).faults (none_first (six.judge here).faults [] e)))) in
+      let is_plain = not (is_main w x.name) || (programs.is_int f.result && programs.no_parameters f.params) in
+      let first = unless (not (marks.has_global x.name there.before || marks.has_function x.name there.before || programs.is_builtin w x.name)) there.at faults.twice x.line in
+      let second = unless (programs.has_scalar_result result && is_plain) there.at faults.mismatch x.line in
+      let third = unless (nat_lt (marks.functions_in there.before) programs.function_limit) there.at (faults.big BigWhat.Functions) x.line in
+      let kept = unless_none (programs.has_scalar_result result && is_plain) there.at faults.mismatch x.line
+      (none_second first second (none_first (first ++ second) third (none_first own [] (none_second (rb.judge here).faults (own ++ []) none)))) in (
+        result_base_known f.result here o tagged (none_first (rb.judge here).faults (named.judge there).faults none) same,
+        result_scalar (programs.has_scalar_result result) is_plain result o refl kept same,
+      )
 
 -- Sizes within the limit, where the fields of each struct are.
 mul_less : (k m n : ℕ) → m ≤ n → k * m ≤ k * n
@@ -210,6 +226,7 @@ NoMore xs ys = (k : ℕ) → get_or xs k 0 ≤ get_or ys k 0
 item_less : (xs ys : List ℕ) → NoMore xs ys → (b : BaseType) (n : ℕ) → item_words xs b n ≤ item_words ys b n
 item_less xs ys le BaseType.Int zero = omega arith
 item_less xs ys le (BaseType.Struct k) zero = le k
+item_less xs ys le BaseType.Unknown zero = omega arith
 item_less xs ys le b (suc n) = omega arith
 
 members_less : (xs ys : List ℕ) → NoMore xs ys → (ms : List Member) → members_words xs ms ≤ words_in ys (map (λ m. m.object) ms)

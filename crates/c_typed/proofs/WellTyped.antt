@@ -84,7 +84,7 @@ module _ (a : Ast) (keeps : faults_of a ≡ []) where
   pub no_fault : (judged w a.items).faults ≡ []
   no_fault = none_first (judged w a.items).faults (unless (nat_lt (main_number w) (length w.functions)) (text w a.items).tokens no_main a.last) keeps
 
-  tagged : AllTagged w a.items start
+  pub tagged : AllTagged w a.items start
   tagged = all_tagged w a.items refl
 
   pub clean : AllClean w a.items start

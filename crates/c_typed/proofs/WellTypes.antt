@@ -1,6 +1,7 @@
 -- Types of well-formed programs, and one level of an expression above well-formed operands.
 use Rattle.std.proofs.Common.{◌≡◌, ℕ, zero, suc, ◌+◌, ◌*◌, ◌<◌, ◌≤◌, Bool, true, false, List, [], ◌∷◌, map, length, get_or, Option, Some, None, refl, ap, sym, ◌∙◌, subst, arith}
-use Rattle.std.specs.Prelude.{slice_get, nat_eq, All}
+use Rattle.std.specs.Prelude.{slice_get, nat_eq, nat_lt, All}
+use Rattle.std.proofs.lemmas.Bool.Decides.{nat_tests}
 use Rattle.std.proofs.lemmas.List.Elements.{All-nil}
 use Rattle.c_typed.specs.declared.types.BaseType.{BaseType}
 use Rattle.c_typed.specs.declared.types.ObjectType.{ObjectType}
@@ -9,10 +10,10 @@ use Rattle.c_typed.specs.declared.expr.Expr.{Expr}
 use Rattle.c_typed.specs.declared.expr.Form.{Form, out-roll-Form}
 use Rattle.c_typed.specs.declared.expr.Form.TheOpen.{Form-F}
 use Rattle.c_typed.specs.declared.program.Struct.{Struct}
-use Rattle.c_typed.specs.Types.{item_words, times, scalar, value_by, value_type}
+use Rattle.c_typed.specs.Types.{is_known_base, is_unknown, item_words, times, place_of_type, scalar, struct_type, value_by, value_type}
 use Rattle.c_typed.specs.Whole.{Whole, Member, Signature}
 use Rattle.c_typed.specs.Exprs.{made, taken, value_by_type, field_by}
-use Rattle.c_typed.specs.Decls.{type_limit}
+use Rattle.c_typed.specs.Decls.{type_limit, is_scalar}
 use Rattle.c_typed.specs.Programs.{main_number}
 use Rattle.c_typed.specs.IsWell.{IsBase, IsObject, IsTyping, sizes_in, Context, IsLayer, operands_of, IsExpr, AreExprs, none, each, known}
 use Rattle.c_typed.proofs.WellParts.{none_some, some_is}
@@ -24,10 +25,18 @@ pub record IsLinked (w : Whole) (c : Context) : Type 0 where
   pub members : (k n : ℕ) (d : Struct) (t : ObjectType) → slice_get c.structs k ≡ Some d → slice_get d.fields n ≡ Some t → IsObject c.structs t
   pub words : (k : ℕ) → get_or (sizes_in c.structs) k 0 ≤ type_limit
   pub functions : (k : ℕ) (s : Signature) → slice_get w.functions k ≡ Some s → slice_get c.functions k ≡ Some (record { result = s.result; parameters = s.parameters })
-  pub results : (k : ℕ) (s : Signature) (t : ObjectType) → slice_get w.functions k ≡ Some s → s.result ≡ Some t → IsBase c.structs t.base
+  pub results : (k : ℕ) (s : Signature) (t : ObjectType) → slice_get w.functions k ≡ Some s → s.result ≡ Some t → IsBase c.structs t.base × (is_scalar t ≡ true)
   pub main : c.main ≡ main_number w
   pub globals : (k : ℕ) (t : ObjectType) → slice_get c.globals k ≡ Some t → IsObject c.structs t
   pub variables : (k : ℕ) (t : ObjectType) → slice_get c.variables k ≡ Some t → IsObject c.structs t
+
+-- the base that a tag of a struct gives
+struct_when : (structs : List Struct) (n k : ℕ) (b : Bool) → nat_lt k n ≡ b → k < n → n ≡ length structs → IsBase structs (elim b as (λ b. BaseType) [ true ↦ BaseType.Struct k | false ↦ BaseType.Unknown ])
+struct_when structs n k true at less same = omega (arith, less, same)
+struct_when structs n k false at less same = absurd (grind (arith, nat_tests, at, less))
+
+pub struct_is : (structs : List Struct) (n k : ℕ) → k < n → n ≡ length structs → IsBase structs (struct_type n k)
+struct_is structs n k less same = struct_when structs n k (nat_lt k n) refl less same
 
 -- All of a list, by its parts.
 pub all_rest : (n : ℕ) (ns : List ℕ) → All (λ n. 0 < n) (n ∷ ns) → All (λ n. 0 < n) ns
@@ -40,6 +49,7 @@ module _ (w : Whole) (c : Context) (linked : IsLinked w c) where
   item_small : (b : BaseType) (n : ℕ) → item_words (sizes_in c.structs) b n ≤ type_limit
   item_small BaseType.Int zero = omega arith
   item_small (BaseType.Struct k) zero = linked.words k
+  item_small BaseType.Unknown zero = omega arith
   item_small b (suc n) = omega arith
 
   pub item_object : (b : BaseType) (n : ℕ) → IsBase c.structs b → IsObject c.structs (record { base = b; stars = n; lengths = [] })
@@ -48,7 +58,31 @@ module _ (w : Whole) (c : Context) (linked : IsLinked w c) where
   pub scalar_typing : (b : BaseType) (n : ℕ) (v : ExprType) → IsBase c.structs b → scalar b n ≡ Some v → IsTyping c.structs v
   scalar_typing BaseType.Int zero v is e = subst (IsTyping c.structs) (some_is e) tt
   scalar_typing (BaseType.Struct k) zero v is e = absurd (none_some e)
-  scalar_typing b (suc n) v is e = subst (IsTyping c.structs) (some_is e) (item_object b n is)
+  scalar_typing BaseType.Int (suc n) v is e = subst (IsTyping c.structs) (some_is e) (item_object BaseType.Int n is)
+  scalar_typing (BaseType.Struct k) (suc n) v is e = subst (IsTyping c.structs) (some_is e) (item_object (BaseType.Struct k) n is)
+  scalar_typing BaseType.Unknown n v is e = absurd is
+
+  -- what is well-formed has a type
+  place_by : (t : ObjectType) (b : BaseType) → IsBase c.structs b → elim (is_known_base b) as (λ b. ExprType) [ true ↦ ExprType.Place t | false ↦ ExprType.Unknown ] ≡ ExprType.Place t
+  place_by t BaseType.Int is = refl
+  place_by t (BaseType.Struct k) is = refl
+  place_by t BaseType.Unknown is = absurd is
+
+  pub place_is : (t : ObjectType) → IsBase c.structs t.base → place_of_type t ≡ ExprType.Place t
+  place_is t is = place_by t t.base is
+
+  pointer_by : (t : ObjectType) (b : BaseType) → IsBase c.structs b → elim (is_known_base b) as (λ b. ExprType) [ true ↦ ExprType.Pointer t | false ↦ ExprType.Unknown ] ≡ ExprType.Pointer t
+  pointer_by t BaseType.Int is = refl
+  pointer_by t (BaseType.Struct k) is = refl
+  pointer_by t BaseType.Unknown is = absurd is
+
+  known_by : (s : ExprType) → IsTyping c.structs s → is_unknown s ≡ false
+  known_by (ExprType.Place t) is = refl
+  known_by ExprType.Int is = refl
+  known_by ExprType.Null is = refl
+  known_by (ExprType.Pointer t) is = refl
+  known_by ExprType.Void is = refl
+  known_by ExprType.Unknown is = absurd is
 
   -- a product is no less than its second factor
   no_less : (n m : ℕ) → 0 < n → n * m ≤ type_limit → m ≤ type_limit
@@ -65,6 +99,12 @@ module _ (w : Whole) (c : Context) (linked : IsLinked w c) where
   -- Expressions.
   pub typing_of : (e : Expr) → IsExpr c e → IsTyping c.structs e.typing
   typing_of f (known e t l es) = t
+
+  pub is_typed : (e : Expr) → IsExpr c e → is_unknown e.typing ≡ false
+  is_typed e is = known_by e.typing (typing_of e is)
+
+  pub no_unknown : (e : Expr) → IsExpr c e → e.typing ≡ ExprType.Unknown → ⊥
+  no_unknown e is at = subst (IsTyping c.structs) at (typing_of e is)
 
   pub made_known : (s : ExprType) (layer : Form-F Form Expr) → IsTyping c.structs s → IsLayer c s layer → AreExprs c (operands_of layer) → IsExpr c (made s layer)
   made_known s layer t l es =
@@ -90,7 +130,7 @@ module _ (w : Whole) (c : Context) (linked : IsLinked w c) where
       made_known v (Form-F.Read e) (scalar_typing b stars v o.base has) (record { base = b; stars = stars; lengths = [] }, at, refl, has) (one e is)
   taken_known e b stars (n ∷ ns) v is at has =
       let o = place_object e _ is at in
-      made_known v (Form-F.Decay e) (subst (IsTyping c.structs) (some_is has) (row_object b stars n ns o)) (record { base = b; stars = stars; lengths = n ∷ ns }, n, ns, at, refl, has) (one e is)
+      made_known v (Form-F.Decay e) (subst (IsTyping c.structs) (sym (pointer_by (record { base = b; stars = stars; lengths = ns }) b o.base) ∙ some_is has) (row_object b stars n ns o)) (record { base = b; stars = stars; lengths = n ∷ ns }, n, ns, at, refl, has) (one e is)
 
   value_taken : (e : Expr) (t : ObjectType) (o : Option ExprType) (v : Expr) → IsExpr c e → e.typing ≡ ExprType.Place t → value_type t ≡ o
       → elim o as (λ o. Option Expr) [ None ↦ None | Some s ↦ Some (taken e t t.lengths s) ] ≡ Some v → IsExpr c v
@@ -104,6 +144,7 @@ module _ (w : Whole) (c : Context) (linked : IsLinked w c) where
   value_known e ExprType.Null v is at has = subst (IsExpr c) (some_is has) is
   value_known e (ExprType.Pointer t) v is at has = subst (IsExpr c) (some_is has) is
   value_known e ExprType.Void v is at has = subst (IsExpr c) (some_is has) is
+  value_known e ExprType.Unknown v is at has = subst (IsExpr c) (some_is has) is
 
 -- the number of a field, and its type
 field_else : (x n : ℕ) (m : Member) (ms : List Member) (f : ℕ × ObjectType) (t : Bool)

@@ -10,6 +10,7 @@ use Rattle.c_ast.specs.declared.expr.BinaryOp.{BinaryOp}
 use Rattle.c_ast.specs.declared.expr.Expr.{ind-Expr, Expr as SourceExpr}
 use Rattle.c_ast.specs.declared.expr.Form.{Form as SourceForm, map-Form}
 use Rattle.c_ast.specs.declared.expr.Form.TheOpen.{Form-F as Source}
+use Rattle.c_typed.specs.declared.expr.Form.TheOpen.{Form-F}
 use Rattle.c_typed.specs.declared.types.ObjectType.{ObjectType}
 use Rattle.c_typed.specs.declared.expr.Expr.{Expr}
 use Rattle.c_typed.specs.Marks.{Mark, History, Variable}
@@ -18,7 +19,7 @@ use Rattle.c_typed.specs.Faults.{Rule, Fault, unknown, mismatch, not_lvalue}
 use Rattle.c_typed.specs.Parts.{Place, Part, tokens, given, mark, joined, behind, both_values, kept_by, ruled_by, obeys, refused, with_faults, separated, in_turn, ◌⊗◌, ◌<⊗◌, ◌⊗>◌, ◌<$>◌}
 use Rattle.c_typed.specs.Tags.{base, type_name, known_tag}
 use Rattle.c_typed.specs.Exprs
-use Rattle.c_typed.specs.Exprs.{Layer, Size, Reading, value, place, unary, operands, product, counted_by, many_of, one_of, field_of, fielded, found_by, field_by, name, name_as, arguments, called, call, call_as, allocation, allocation_by, form_step, expr}
+use Rattle.c_typed.specs.Exprs.{Layer, Size, Reading, value, place, unary, operands, product, counted_by, many_of, one_of, field_of, fielded, in_struct, found_by, field_by, name, name_as, arguments, called, call, call_as, allocation, allocation_by, form_step, expr}
 use Rattle.c_typed.proofs.Levels.{mapped_form, read_form, form_roll, expr_reads}
 use Rattle.c_typed.proofs.WellParts.{none_each, none_first, none_second, ruled_faults}
 
@@ -167,11 +168,15 @@ found_has : (f : Ident) (form : Expr → ℕ → Layer) (at : ℕ) (fs : List Fa
 found_has f form at fs x None e = absurd (none_each (none_second fs _ e))
 found_has f form at fs x (Some m) e = record { value = _; there = refl }
 
-fielded_has : (w : Whole) (f : Ident) (form : Expr → ℕ → Layer) (at : ℕ) (fs : List Fault) (o : Option (Expr × ℕ)) → (fs ≡ [] → Has o) → (fielded w f form at fs o).faults ≡ [] → Has (fielded w f form at fs o).value
-fielded_has w f form at fs None has e = absurd (subst (λ o. elim o as (λ o. Type 0) [ None ↦ Unit {0} | Some a ↦ ⊥ ]) (has e).there tt)
-fielded_has w f form at fs (Some x) has e = found_has f form at fs x.0 (field_by f.name 0 (get_or w.structs x.1 [])) e
+struct_has : (w : Whole) (f : Ident) (form : Expr → ℕ → Layer) (at : ℕ) (fs : List Fault) (x : Expr) (k : Option ℕ) → (in_struct w f form at fs x k).faults ≡ [] → Has (in_struct w f form at fs x k).value
+struct_has w f form at fs x None e = record { value = _; there = refl }
+struct_has w f form at fs x (Some k) e = found_has f form at fs x (field_by f.name 0 (get_or w.structs k [])) e
 
-whole_field : (w : Whole) (f : Ident) (form : Expr → ℕ → Layer) (p : Part (Expr × ℕ)) → IsWhole p → IsWhole (field_of w f form p)
+fielded_has : (w : Whole) (f : Ident) (form : Expr → ℕ → Layer) (at : ℕ) (fs : List Fault) (o : Option (Expr × Option ℕ)) → (fs ≡ [] → Has o) → (fielded w f form at fs o).faults ≡ [] → Has (fielded w f form at fs o).value
+fielded_has w f form at fs None has e = absurd (subst (λ o. elim o as (λ o. Type 0) [ None ↦ Unit {0} | Some a ↦ ⊥ ]) (has e).there tt)
+fielded_has w f form at fs (Some x) has e = struct_has w f form at fs x.0 x.1 e
+
+whole_field : (w : Whole) (f : Ident) (form : Expr → ℕ → Layer) (p : Part (Expr × Option ℕ)) → IsWhole p → IsWhole (field_of w f form p)
 whole_field w f form p is = record { whole = λ here e. fielded_has w f form (here.at + p.tokens + 1) (p.judge here).faults (p.judge here).value (is.whole here) e }
 
 -- Calls.
@@ -242,8 +247,8 @@ level_whole w line (Source.Unary op x) = plainly line _ (whole_unary op line (ex
 level_whole w line (Source.Cast to x) =
     plainly line _ (whole_obeys mismatch line _ _ (beside (before (after (whole_tokens 1) (whole_type_name w to)) (whole_tokens 1)) (whole_value (expr w x.0) x.1)))
 level_whole w line (Source.Index x i) = plainly line _ (whole_obeys mismatch line _ _ (before (whole_operands (expr w x.0) (expr w i.0) x.1 i.1) (whole_tokens 1)))
-level_whole w line (Source.Field x f) = plainly line _ (whole_field w f _ _ (whole_obeys mismatch line _ _ x.1.plain))
-level_whole w line (Source.Arrow x f) = plainly line _ (whole_field w f _ _ (whole_obeys mismatch line _ _ (whole_value (expr w x.0) x.1)))
+level_whole w line (Source.Field x f) = plainly line _ (whole_field w f Form-F.Field _ (whole_obeys mismatch line _ _ x.1.plain))
+level_whole w line (Source.Arrow x f) = plainly line _ (whole_field w f Form-F.Arrow _ (whole_obeys mismatch line _ _ (whole_value (expr w x.0) x.1)))
 level_whole w line (Source.Number k) = plainly line _ (record { whole = λ here e. record { value = _; there = refl } })
 level_whole w line Source.Null = plainly line _ (record { whole = λ here e. record { value = _; there = refl } })
 level_whole w line (Source.Name i) = plainly line _ (whole_name w i)

@@ -25,15 +25,9 @@ use Rattle.c_typed.specs.Marks.{field, local, History, locals_in, is_declared, h
 use Rattle.c_typed.specs.Whole.{Whole}
 use Rattle.c_typed.specs.Faults.{Fault, twice, mismatch, big, unless}
 use Rattle.c_typed.specs.Parts.{Place, Part, tokens, mark, obeys, with_faults, separated, ◌<⊗◌, ◌⊗>◌, ◌<$>◌}
+pub use Rattle.dfi_base.specs.Limits.{type_limit, frame_limit}
 use Rattle.c_typed.specs.Tags.{base}
 use Rattle.c_typed.specs.Exprs.{made, expr, value}
-
--- The limits.
-abbrev pub type_limit : ℕ
-type_limit = 24576
-
-abbrev pub frame_limit : ℕ
-frame_limit = 4096
 
 -- an array has at least one item
 abbrev pub has_items : List ℕ → Bool

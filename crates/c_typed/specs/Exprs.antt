@@ -13,7 +13,7 @@ use Rattle.c_typed.specs.declared.expr.PrefixOp.{PrefixOp}
 use Rattle.c_typed.specs.declared.expr.Expr.{Expr}
 use Rattle.c_typed.specs.declared.expr.Form.{Form, roll-Form}
 use Rattle.c_typed.specs.declared.expr.Form.TheOpen.{Form-F}
-use Rattle.c_typed.specs.Types.{value_type, scalar_type, fits, suits, is_truth}
+use Rattle.c_typed.specs.Types.{value_type, scalar_type, place_of_type, is_unknown, fits, accepts, suits, is_truth}
 use Rattle.c_typed.specs.Marks.{History, Variable}
 use Rattle.c_typed.specs.Whole.{Whole, Member, Signature, Builtin, Meaning, meaning, is_main}
 use Rattle.c_typed.specs.Faults.{Fault, unknown, mismatch, not_lvalue}
@@ -69,6 +69,7 @@ value r = obeys mismatch r.line (λ h e. value_by_type e e.typing) r.plain
 -- the expression as a place
 abbrev pub place_by_type : Expr → ExprType → Option Expr
 place_by_type e (ExprType.Place t) = Some e
+place_by_type e ExprType.Unknown = Some e
 place_by_type e _ = None
 
 abbrev pub place : Reading → Part Expr
@@ -77,6 +78,13 @@ place r = obeys not_lvalue r.line (λ h e. place_by_type e e.typing) r.plain
 -- two operands with a token between
 abbrev pub operands : Reading → Reading → Part (Expr × Expr)
 operands l r = value l <⊗ tokens 1 ⊗ value r
+
+-- What is built of an operand without a type has none.
+abbrev pub untyped : Layer → Expr
+untyped layer = made ExprType.Unknown layer
+
+abbrev pub unless_untyped : Bool → Layer → Option Expr → Option Expr
+unless_untyped b layer e = elim b [ true ↦ Some (untyped layer) | false ↦ e ]
 
 -- Types of operators.
 abbrev pub of_ints : ExprType → ExprType → Option ExprType
@@ -115,21 +123,28 @@ binary_type BinaryOp.Sub s t = of_difference s t
 binary_type _ s t = of_ints s t
 
 abbrev pub binary : BinaryOp → Expr → Expr → Option Expr
-binary op e f = elim (binary_type op e.typing f.typing) [ None ↦ None | Some t ↦ Some (made t (Form-F.Binary e op f)) ]
+binary op e f =
+    unless_untyped (is_unknown e.typing || is_unknown f.typing) (Form-F.Binary e op f)
+    (elim (binary_type op e.typing f.typing) [ None ↦ None | Some t ↦ Some (made t (Form-F.Binary e op f)) ])
 
 abbrev pub int_prefix : PrefixOp → Expr → ExprType → Option Expr
 int_prefix op e ExprType.Int = Some (made ExprType.Int (Form-F.Prefix op e))
+int_prefix op e ExprType.Unknown = Some (untyped (Form-F.Prefix op e))
 int_prefix op e _ = None
 
 abbrev pub plus : Expr → ExprType → Option Expr
 plus e ExprType.Int = Some e
+plus e ExprType.Unknown = Some e
 plus e _ = None
 
 abbrev pub negation : Expr → Option Expr
-negation e = elim (is_truth e.typing) [ true ↦ Some (made ExprType.Int (Form-F.Prefix PrefixOp.Not e)) | false ↦ None ]
+negation e =
+    unless_untyped (is_unknown e.typing) (Form-F.Prefix PrefixOp.Not e)
+    (elim (is_truth e.typing) [ true ↦ Some (made ExprType.Int (Form-F.Prefix PrefixOp.Not e)) | false ↦ None ])
 
 abbrev pub pointed_at : Expr → ExprType → Option Expr
 pointed_at e (ExprType.Pointer t) = Some (made (ExprType.Place t) (Form-F.Deref e))
+pointed_at e ExprType.Unknown = Some (untyped (Form-F.Deref e))
 pointed_at e _ = None
 
 -- an array has no address
@@ -139,6 +154,7 @@ address_by e t (n ∷ ns) = None
 
 abbrev pub address : Expr → ExprType → Option Expr
 address e (ExprType.Place t) = address_by e t t.lengths
+address e ExprType.Unknown = Some (untyped (Form-F.Address e))
 address e _ = None
 
 abbrev pub unary : UnaryOp → Line → Reading → Part Expr
@@ -149,11 +165,14 @@ unary UnaryOp.Complement line r = obeys mismatch line (λ h e. int_prefix Prefix
 unary UnaryOp.Deref line r = obeys mismatch line (λ h e. pointed_at e e.typing) (tokens 1 ⊗> value r)
 unary UnaryOp.Address line r = obeys mismatch line (λ h e. address e e.typing) (tokens 1 ⊗> place r)
 
-abbrev pub item_at : Expr → Expr → ExprType → ExprType → Option Expr
-item_at p i (ExprType.Pointer t) ExprType.Int = Some (made (ExprType.Place t) (Form-F.Index p i))
-item_at p i _ _ = None
+abbrev pub item_by : Expr → Expr → ExprType → ExprType → Option Expr
+item_by p i (ExprType.Pointer t) ExprType.Int = Some (made (ExprType.Place t) (Form-F.Index p i))
+item_by p i _ _ = None
 
--- Fields: the whole is a struct, or a pointer to one, and its struct has a field of the name.
+abbrev pub item_at : Expr → Expr → ExprType → ExprType → Option Expr
+item_at p i s t = unless_untyped (is_unknown s || is_unknown t) (Form-F.Index p i) (item_by p i s t)
+
+-- Fields: the whole is a struct, or a pointer to one, and its struct has a field of the name. What has no type has any field.
 abbrev pub struct_by : ObjectType → BaseType → ℕ → List ℕ → Option ℕ
 struct_by t (BaseType.Struct k) zero [] = Some k
 struct_by t _ _ _ = None
@@ -161,15 +180,21 @@ struct_by t _ _ _ = None
 abbrev pub struct_of : ObjectType → Option ℕ
 struct_of t = struct_by t t.base t.stars t.lengths
 
-abbrev pub struct_at : ExprType → Option ℕ
-struct_at (ExprType.Place t) = struct_of t
+abbrev pub known_struct : Option ℕ → Option (Option ℕ)
+known_struct None = None
+known_struct (Some k) = Some (Some k)
+
+abbrev pub struct_at : ExprType → Option (Option ℕ)
+struct_at (ExprType.Place t) = known_struct (struct_of t)
+struct_at ExprType.Unknown = Some None
 struct_at _ = None
 
-abbrev pub struct_behind : ExprType → Option ℕ
-struct_behind (ExprType.Pointer t) = struct_of t
+abbrev pub struct_behind : ExprType → Option (Option ℕ)
+struct_behind (ExprType.Pointer t) = known_struct (struct_of t)
+struct_behind ExprType.Unknown = Some None
 struct_behind _ = None
 
-abbrev pub with_struct : Expr → Option ℕ → Option (Expr × ℕ)
+abbrev pub with_struct : Expr → Option (Option ℕ) → Option (Expr × Option ℕ)
 with_struct e None = None
 with_struct e (Some k) = Some (e, k)
 
@@ -180,13 +205,17 @@ field_by x n (m ∷ ms) = elim (nat_eq x m.name) [ true ↦ Some (n, m.object) |
 
 abbrev pub found_by : Ident → (Expr → ℕ → Layer) → ℕ → List Fault → Expr → Option (ℕ × ObjectType) → Judged Expr
 found_by f form at faults e None = record { faults = faults ++ record { at = at; rule = unknown; line = f.line } ∷ []; value = None }
-found_by f form at faults e (Some m) = record { faults = faults; value = Some (made (ExprType.Place m.1) (form e m.0)) }
+found_by f form at faults e (Some m) = record { faults = faults; value = Some (made (place_of_type m.1) (form e m.0)) }
 
-abbrev pub fielded : Whole → Ident → (Expr → ℕ → Layer) → ℕ → List Fault → Option (Expr × ℕ) → Judged Expr
+abbrev pub in_struct : Whole → Ident → (Expr → ℕ → Layer) → ℕ → List Fault → Expr → Option ℕ → Judged Expr
+in_struct w f form at faults e None = record { faults = faults; value = Some (untyped (form e 0)) }
+in_struct w f form at faults e (Some k) = found_by f form at faults e (field_by f.name 0 (get_or w.structs k []))
+
+abbrev pub fielded : Whole → Ident → (Expr → ℕ → Layer) → ℕ → List Fault → Option (Expr × Option ℕ) → Judged Expr
 fielded w f form at faults None = record { faults = faults; value = None }
-fielded w f form at faults (Some e) = found_by f form at faults e.0 (field_by f.name 0 (get_or w.structs e.1 []))
+fielded w f form at faults (Some e) = in_struct w f form at faults e.0 e.1
 
-abbrev pub field_of : Whole → Ident → (Expr → ℕ → Layer) → Part (Expr × ℕ) → Part Expr
+abbrev pub field_of : Whole → Ident → (Expr → ℕ → Layer) → Part (Expr × Option ℕ) → Part Expr
 field_of w f form p = record {
   tokens = p.tokens + 2;
   marks = p.marks;
@@ -195,8 +224,8 @@ field_of w f form p = record {
 
 -- A name: a variable. A function is none.
 abbrev pub name_as : Ident → Meaning → Part Expr
-name_as i (Meaning.object (Variable.global k t)) = given (made (ExprType.Place t) (Form-F.Global k))
-name_as i (Meaning.object (Variable.local k t)) = given (made (ExprType.Place t) (Form-F.Local k))
+name_as i (Meaning.object (Variable.global k t)) = given (made (place_of_type t) (Form-F.Global k))
+name_as i (Meaning.object (Variable.local k t)) = given (made (place_of_type t) (Form-F.Local k))
 name_as i Meaning.nothing = refused unknown i.line (tokens 0)
 name_as i _ = refused mismatch i.line (tokens 0)
 
@@ -206,13 +235,13 @@ name w i = record { tokens = 1; marks = []; judge = λ here. (name_as i (meaning
 -- Calls.
 abbrev pub all_fit : List Expr → List ObjectType → Bool
 all_fit [] [] = true
-all_fit (e ∷ es) (t ∷ ts) = fits e.typing t && all_fit es ts
+all_fit (e ∷ es) (t ∷ ts) = accepts e.typing t && all_fit es ts
 all_fit _ _ = false
 
--- a result of a struct type, which is a fault of its own, gives no value
+-- a result of a struct type, which is a fault of its own, has no type
 abbrev pub called_type : Option ObjectType → ExprType
 called_type None = ExprType.Void
-called_type (Some t) = elim (scalar_type t) [ None ↦ ExprType.Void | Some v ↦ v ]
+called_type (Some t) = elim (scalar_type t) [ None ↦ ExprType.Unknown | Some v ↦ v ]
 
 abbrev pub applied : ℕ → Signature → List Expr → Option Expr
 applied k s es = elim (all_fit es s.parameters) [ true ↦ Some (made (called_type s.result) (Form-F.Call k es)) | false ↦ None ]
@@ -223,6 +252,7 @@ asked layer _ = None
 
 abbrev pub put_by : Expr → ExprType → Option Expr
 put_by e ExprType.Int = Some (made ExprType.Void (Form-F.PutInt e))
+put_by e ExprType.Unknown = Some (made ExprType.Void (Form-F.PutInt e))
 put_by e _ = None
 
 abbrev pub put : List Expr → Option Expr
@@ -232,6 +262,7 @@ put _ = None
 abbrev pub freed_by : Expr → ExprType → Option Expr
 freed_by e (ExprType.Pointer t) = Some (made ExprType.Void (Form-F.Free e))
 freed_by e ExprType.Null = Some (made ExprType.Void (Form-F.Free e))
+freed_by e ExprType.Unknown = Some (made ExprType.Void (Form-F.Free e))
 freed_by e _ = None
 
 abbrev pub freed : List Expr → Option Expr
@@ -241,7 +272,7 @@ freed _ = None
 abbrev pub allocated : Size → Option Expr
 allocated s =
     let e = made (ExprType.Pointer s.item) (Form-F.New s.item s.count) in
-    elim s.count [ None ↦ Some e | Some n ↦ elim n.typing [ ExprType.Int ↦ Some e | _ ↦ None ] ]
+    elim s.count [ None ↦ Some e | Some n ↦ elim n.typing [ ExprType.Int ↦ Some e | ExprType.Unknown ↦ Some e | _ ↦ None ] ]
 
 abbrev pub arguments : List Reading → Part (List Expr)
 arguments rs = separated (map value rs)

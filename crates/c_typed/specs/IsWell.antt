@@ -19,7 +19,7 @@ use Rattle.c_typed.specs.Types.{words_of, scalar_type, value_type, is_truth, fit
 use Rattle.c_typed.specs.Exprs.{binary_type, struct_of, all_fit, called_type}
 use Rattle.c_typed.specs.Decls.{is_scalar, type_limit, frame_limit}
 use Rattle.c_typed.specs.Stmts.{scalar_at, assigns_scalar}
-use Rattle.c_typed.specs.Programs.{global_limit, function_limit}
+use Rattle.c_typed.specs.Programs.{global_limit, function_limit, declaration_limit}
 use Rattle.c_typed.specs.Typed.{Typed}
 
 -- Types.
@@ -29,6 +29,7 @@ sizes_in structs = map (λ s. s.words) structs
 abbrev pub IsBase : List Struct → BaseType → Type 0
 IsBase structs BaseType.Int = Unit {0}
 IsBase structs (BaseType.Struct k) = k < length structs
+IsBase structs BaseType.Unknown = ⊥
 
 -- its struct exists, each array has items, and its words are within the limit
 pub record IsObject (structs : List Struct) (t : ObjectType) : Type 0 where
@@ -40,6 +41,7 @@ pub record IsObject (structs : List Struct) (t : ObjectType) : Type 0 where
 abbrev pub IsTyping : List Struct → ExprType → Type 0
 IsTyping structs (ExprType.Place t) = IsObject structs t
 IsTyping structs (ExprType.Pointer t) = IsObject structs t
+IsTyping structs ExprType.Unknown = ⊥
 IsTyping structs _ = Unit {0}
 
 -- What an expression may name.
@@ -181,6 +183,15 @@ IsReturned c None None = Unit {0}
 IsReturned c (Some t) (Some e) = IsExpr c e × (fits e.typing t ≡ true)
 IsReturned c _ _ = ⊥
 
+-- an assignment, a count, a call, or nothing
+abbrev pub is_simple : Stmt-F Stmt → Bool
+is_simple (Stmt-F.Assign line e op v) = true
+is_simple (Stmt-F.Increment line e) = true
+is_simple (Stmt-F.Decrement line e) = true
+is_simple (Stmt-F.Call line e) = true
+is_simple (Stmt-F.Block []) = true
+is_simple _ = false
+
 -- One level of a statement.
 abbrev pub IsStmtLayer : Context → Round → Stmt-F Stmt → Type 0
 IsStmtLayer c r (Stmt-F.Assign line e op v) = (is : IsTarget c e) × IsExpr c v × (assigns_scalar op is.scalar v.typing ≡ true)
@@ -192,7 +203,7 @@ IsStmtLayer c r (Stmt-F.Break line) = r.looped ≡ true
 IsStmtLayer c r (Stmt-F.Continue line) = r.looped ≡ true
 IsStmtLayer c r (Stmt-F.If line d first second) = IsCondition c d
 IsStmtLayer c r (Stmt-F.While line d body) = IsCondition c d
-IsStmtLayer c r (Stmt-F.For line start d step body) = IsConditionThere c d
+IsStmtLayer c r (Stmt-F.For line start d step body) = IsConditionThere c d × (is_simple (out-Stmt step) ≡ true)
 IsStmtLayer c r (Stmt-F.Par line branches) = (2 ≤ length branches) × (length branches ≤ 15)
 IsStmtLayer c r (Stmt-F.Block ss) = Unit {0}
 
@@ -236,6 +247,7 @@ words_in sizes (t ∷ ts) = words_of sizes t + words_in sizes ts
 -- a struct by value is one before
 abbrev pub IsEarlier : ℕ → BaseType → ℕ → Type 0
 IsEarlier k (BaseType.Struct j) zero = j < k
+IsEarlier k BaseType.Unknown zero = ⊥
 IsEarlier k _ _ = Unit {0}
 
 pub record IsStruct (structs : List Struct) (k : ℕ) (d : Struct) : Type 0 where
@@ -284,10 +296,31 @@ pub record IsFunction (t : Typed) (f : Function) : Type 0 where
   pub frame : suc (words_in (sizes_in t.structs) (objects_of f.variables)) ≤ frame_limit
   pub body : AreStmts (context_of t f) (placed (record { looped = false; branched = false }) f.body)
 
+-- What is declared: structs, fields, globals and variables, each with its array dimensions.
+abbrev pub declared_in : List ObjectType → ℕ
+declared_in [] = 0
+declared_in (t ∷ ts) = suc (length t.lengths + declared_in ts)
+
+abbrev pub declared_structs : List Struct → ℕ
+declared_structs [] = 0
+declared_structs (d ∷ ds) = suc (declared_in d.fields + declared_structs ds)
+
+abbrev pub declared_functions : List Function → ℕ
+declared_functions [] = 0
+declared_functions (f ∷ fs) = declared_in (objects_of f.variables) + declared_functions fs
+
+abbrev pub declarations : Typed → ℕ
+declarations t = declared_structs t.structs + declared_in (map (λ g. g.object) t.globals) + declared_functions t.functions
+
+abbrev pub IsIntResult : Option ObjectType → Type 0
+IsIntResult None = ⊥
+IsIntResult (Some t) = is_int t ≡ true
+
 pub record IsWell (t : Typed) : Type 0 where
   pub structs : (k : ℕ) (d : Struct) → slice_get t.structs k ≡ Some d → IsStruct t.structs k d
   pub globals : All (IsGlobal t.structs) t.globals
   pub global_words : words_in (sizes_in t.structs) (map (λ g. g.object) t.globals) ≤ global_limit
   pub functions : All (IsFunction t) t.functions
   pub few_functions : length t.functions ≤ function_limit
-  pub main : (f : Function) × (slice_get t.functions t.main ≡ Some f) × (f.parameters ≡ 0)
+  pub few_declarations : declarations t ≤ declaration_limit
+  pub main : (f : Function) × (slice_get t.functions t.main ≡ Some f) × (f.parameters ≡ 0) × IsIntResult f.result

@@ -12,4 +12,5 @@ pub mod Programs
 pub mod Checks
 pub mod IsWell
 pub mod TypedIsWell
+pub mod Elaboration
 pub mod tools

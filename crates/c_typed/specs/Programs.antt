@@ -22,7 +22,6 @@ use Rattle.c_ast.specs.declared.program.Function.{Function as SourceFunction}
 use Rattle.c_ast.specs.declared.program.Proto.{Proto}
 use Rattle.c_ast.specs.declared.program.Item.{Item}
 use Rattle.c_typed.specs.declared.fault.BigWhat.{BigWhat}
-use Rattle.c_typed.specs.declared.types.BaseType.{BaseType}
 use Rattle.c_typed.specs.declared.types.ObjectType.{ObjectType}
 use Rattle.c_typed.specs.declared.types.ExprType.{ExprType}
 use Rattle.c_typed.specs.declared.stmt.Stmt.{Stmt}
@@ -30,7 +29,7 @@ use Rattle.c_typed.specs.declared.program.Struct.{Struct}
 use Rattle.c_typed.specs.declared.program.Global.{Global}
 use Rattle.c_typed.specs.declared.program.Variable.{Variable}
 use Rattle.c_typed.specs.declared.program.Function.{Function}
-use Rattle.c_typed.specs.Types.{declared_type, pointers_to, parameter_stars, result_type, same_object, scalar_type, words_of, place_of}
+use Rattle.c_typed.specs.Types.{declared_type, pointers_to, parameter_stars, result_type, is_known, same_object, scalar_type, words_of, place_of}
 use Rattle.c_typed.specs.Marks.{Mark, History, tag, global, function, prototype, local, opens, closes, fields, block, has_tag, has_global, has_function, has_prototype, functions_in, global_words}
 use Rattle.c_typed.specs.Whole.{Whole, Member, Signature, whole_of, parameter_types, spelling, builtin_of, is_main}
 use Rattle.c_typed.specs.Faults.{Fault, unknown, twice, mismatch, big, no_main, unless}
@@ -39,14 +38,13 @@ use Rattle.c_typed.specs.Tags.{base}
 use Rattle.c_typed.specs.Exprs.{expr}
 use Rattle.c_typed.specs.Decls as decls
 use Rattle.c_typed.specs.Decls.{declarator_tokens, name_at, by_value, has_items, is_scalar, type_limit, parameter, proto_parameter, joined_lists}
+pub use Rattle.dfi_base.specs.Limits.{global_limit, function_limit}
 use Rattle.c_typed.specs.Stmts.{body, stmt}
 use Rattle.c_typed.specs.Typed.{Typed}
 
-abbrev pub global_limit : ℕ
-global_limit = 8176
-
-abbrev pub function_limit : ℕ
-function_limit = 256
+-- what a program declares, as few as the tokens of a text
+abbrev pub declaration_limit : ℕ
+declaration_limit = 200000
 
 abbrev pub is_builtin : Whole → ℕ → Bool
 is_builtin w x = is_some (builtin_of (spelling w x))
@@ -188,23 +186,20 @@ same_result None None = true
 same_result (Some s) (Some t) = same_object s t
 same_result _ _ = false
 
--- its struct, if it has one, is defined in the text
-abbrev pub has_struct : Whole → BaseType → Bool
-has_struct w BaseType.Int = true
-has_struct w (BaseType.Struct k) = nat_lt k (length w.structs)
-
-abbrev pub have_structs : Whole → List ObjectType → Bool
-have_structs w = list_all (λ t. has_struct w t.base)
-
 abbrev pub types_in : Option ObjectType → List ObjectType → List ObjectType
 types_in None ts = ts
 types_in (Some t) ts = t ∷ ts
 
--- where a tag of the prototype is of no struct, which is a fault of its own, the types are not compared
-abbrev pub agrees : Whole → Option ObjectType → List ObjectType → Option Signature → Bool
-agrees w result types None = true
-agrees w result types (Some s) =
-    not (have_structs w (types_in result types)) || (same_result result s.result && same_objects types s.parameters)
+-- none has a fault of its own: no unknown tag, and no struct
+abbrev pub are_sound : List ObjectType → Bool
+are_sound = list_all (λ t. is_known t && is_scalar t)
+
+-- where a part of one of them has a fault of its own, the types are not compared
+abbrev pub agrees : Option ObjectType → List ObjectType → Option Signature → Bool
+agrees result types None = true
+agrees result types (Some s) =
+    not (are_sound (types_in result types) && are_sound (types_in s.result s.parameters))
+    || (same_result result s.result && same_objects types s.parameters)
 
 abbrev pub function_of : Whole → ℕ → Option Signature
 function_of w x = slice_get w.functions (place_of x (map (λ s. s.name) w.functions))
@@ -214,7 +209,7 @@ proto_faults w p x result here =
     unless (is_some (function_of w x.name)) here.at unknown x.line
     ++ unless (not (has_global x.name here.before || is_builtin w x.name)) here.at twice x.line
     ++ unless (
-    has_scalar_result result && agrees w result (proto_types w.tags p.params) (function_of w x.name)
+    has_scalar_result result && agrees result (proto_types w.tags p.params) (function_of w x.name)
     && (not (is_main w x.name) || (is_int p.result && no_proto_parameters p.params))) here.at mismatch x.line
 
 abbrev pub proto_parameters : Whole → ProtoParams → Part (List (Unit {0}))

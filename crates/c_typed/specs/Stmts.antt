@@ -44,6 +44,8 @@ moves AssignOp.Sub = true
 moves _ = false
 
 abbrev pub compounds : AssignOp → ExprType → ExprType → Bool
+compounds op ExprType.Unknown v = true
+compounds op t ExprType.Unknown = true
 compounds op ExprType.Int ExprType.Int = true
 compounds op (ExprType.Pointer t) ExprType.Int = moves op
 compounds op _ _ = false
@@ -55,6 +57,7 @@ assigns_scalar op t v = compounds op t v
 -- the type of what stands at a place, none for arrays and structs
 abbrev pub scalar_at : ExprType → Option ExprType
 scalar_at (ExprType.Place t) = scalar_type t
+scalar_at ExprType.Unknown = Some ExprType.Unknown
 scalar_at _ = None
 
 abbrev pub assigned : Line → AssignOp → Expr → Expr → Option Stmt

@@ -2,7 +2,7 @@
 
 ghost use Rattle.std.specs.Prelude.{◌≡◌, ◌∷◌, ◌<◌, ◌≤◌, ◌^◌, IfOk, IfErr, OnOk, Some, None, length};
 ghost use Rattle.c_typed.specs.Decls.{is_scalar};
-ghost use Rattle.c_typed.specs.Types.{same_base, same_lengths, same_object, suits, fits, is_truth, scalar, scalar_type, value_type};
+ghost use Rattle.c_typed.specs.Types.{same_base, same_lengths, same_object, is_known, is_unknown, suits, fits, accepts, is_truth, scalar, scalar_type, value_type};
 
 use sqlite_items::Items;
 use std::alloc::{AllocError, Global};
@@ -12,6 +12,8 @@ use std::alloc::{AllocError, Global};
 pub enum BaseType {
     Int,
     Struct(u32),
+    /// A tag of no struct, which is a fault of its own. No typed program has it.
+    Unknown,
 }
 
 /// The type of what a name or a pointer stands for: arrays of `lengths`, outermost first, of pointers, `stars` deep, to
@@ -35,6 +37,8 @@ pub enum ExprType {
     Pointer(ObjectType),
     /// No value.
     Void,
+    /// Of a part that has a fault of its own, and of what is built from it: it fits anything. No typed program has it.
+    Unknown,
 }
 
 impl BaseType {
@@ -66,6 +70,9 @@ fn are_same(left: &[u32], right: &[u32]) -> bool
 fn scalar(alloc: Global, base: BaseType, stars: u64) -> Option<ExprType>
     ensures { result ≡ scalar base stars }
 {
+    if matches!(base, BaseType::Unknown) {
+        return Some(ExprType::Unknown);
+    }
     if stars > 0 {
         return Some(ExprType::Pointer(ObjectType {
             base,
@@ -75,11 +82,18 @@ fn scalar(alloc: Global, base: BaseType, stars: u64) -> Option<ExprType>
     }
     match base {
         BaseType::Int => Some(ExprType::Int),
-        BaseType::Struct(_) => None,
+        _ => None,
     }
 }
 
 impl ObjectType {
+    /// Whether its base is known.
+    pub fn is_known(&self) -> bool
+        ensures { result ≡ is_known self.now }
+    {
+        !matches!(self.base, BaseType::Unknown)
+    }
+
     /// Whether two types are one.
     pub fn is(&self, other: &ObjectType) -> bool
         ensures { result ≡ same_object self.now other.now }
@@ -131,12 +145,24 @@ impl ObjectType {
         }
     }
 
+    /// Whether a value of type `v` may be the argument for a parameter of this type: one of a struct's type has a fault of
+    /// its own, and takes anything.
+    pub fn accepts(&self, alloc: Global, v: &ExprType) -> bool
+        ensures { result ≡ accepts v.now self.now }
+    {
+        match self.scalar(alloc) {
+            None => true,
+            Some(wanted) => v.suits(&wanted),
+        }
+    }
+
     /// The type of the value at a place; none of a struct.
     pub fn value(&self, alloc: Global) -> Result<Option<ExprType>, AllocError>
         ensures { IfOk result (λ v. v ≡ value_type self.now) }
     {
         match self.lengths.as_slice().split_first() {
             None => Ok(scalar(alloc, self.base, self.stars)),
+            Some(_) if !self.is_known() => Ok(Some(ExprType::Unknown)),
             Some((_, rest)) => Ok(Some(ExprType::Pointer(ObjectType {
                 base: self.base,
                 stars: self.stars,
@@ -153,15 +179,26 @@ impl ExprType {
     {
         match (self, wanted) {
             (ExprType::Int, ExprType::Int) | (ExprType::Null, ExprType::Pointer(_)) => true,
+            (ExprType::Unknown, _) | (_, ExprType::Unknown) => true,
             (ExprType::Pointer(left), ExprType::Pointer(right)) => left.is(right),
             _ => false,
         }
+    }
+
+    /// Whether it is that of a part with a fault of its own.
+    pub fn is_unknown(&self) -> bool
+        ensures { result ≡ is_unknown self.now }
+    {
+        matches!(self, ExprType::Unknown)
     }
 
     /// Whether it is an `int` or a pointer.
     pub fn is_truth(&self) -> bool
         ensures { result ≡ is_truth self.now }
     {
-        matches!(self, ExprType::Int | ExprType::Null | ExprType::Pointer(_))
+        matches!(
+            self,
+            ExprType::Int | ExprType::Null | ExprType::Pointer(_) | ExprType::Unknown
+        )
     }
 }

@@ -10,6 +10,7 @@ use Rattle.c_ast.specs.declared.expr.BinaryOp.{BinaryOp}
 use Rattle.c_ast.specs.declared.expr.Expr.{ind-Expr, Expr as SourceExpr}
 use Rattle.c_ast.specs.declared.expr.Form.{Form as SourceForm, map-Form}
 use Rattle.c_ast.specs.declared.expr.Form.TheOpen.{Form-F as Source}
+use Rattle.c_typed.specs.declared.expr.Form.TheOpen.{Form-F}
 use Rattle.c_typed.specs.declared.types.ObjectType.{ObjectType}
 use Rattle.c_typed.specs.declared.expr.Expr.{Expr}
 use Rattle.c_typed.specs.Marks.{Variable}
@@ -18,7 +19,7 @@ use Rattle.c_typed.specs.Faults.{Fault, unknown, mismatch, not_lvalue}
 use Rattle.c_typed.specs.Parts.{Place, Part, tokens, given, joined, obeys, refused, ◌⊗◌, ◌<⊗◌, ◌⊗>◌}
 use Rattle.c_typed.specs.Tags.{base, type_name, known_tag}
 use Rattle.c_typed.specs.Exprs
-use Rattle.c_typed.specs.Exprs.{Layer, Size, Reading, value, place, unary, product, counted_by, many_of, one_of, field_of, fielded, found_by, field_by, name, name_as, arguments, called, call, call_as, allocation, allocation_by, form_step, expr}
+use Rattle.c_typed.specs.Exprs.{Layer, Size, Reading, value, place, unary, product, counted_by, many_of, one_of, field_of, fielded, in_struct, found_by, field_by, name, name_as, arguments, called, call, call_as, allocation, allocation_by, form_step, expr}
 use Rattle.c_types.proofs.Bounds.{IsWithin, IsBounded, IsInside, inside, inside_tokens, inside_joined, bounded_first, bounded_second, bounded_tokens, bounded_obeys, bounded_refused, before_more, from_append, before_append}
 use Rattle.c_typed.proofs.Levels.{mapped_form, read_form, form_roll, expr_reads}
 
@@ -97,15 +98,20 @@ found_within : (f : Ident) (form : Expr → ℕ → Layer) (from to at : ℕ) (f
 found_within f form from to at fs e None le less is = append_within from to fs _ is (record { start = (le, tt); end = (less, tt) })
 found_within f form from to at fs e (Some m) le less is = is
 
-fielded_within : (w : Whole) (f : Ident) (form : Expr → ℕ → Layer) (from to at : ℕ) (fs : List Fault) (o : Option (Expr × ℕ)) → from ≤ at → at < to
+struct_within : (w : Whole) (f : Ident) (form : Expr → ℕ → Layer) (from to at : ℕ) (fs : List Fault) (e : Expr) (o : Option ℕ) → from ≤ at → at < to
+    → IsWithin from to fs → IsWithin from to (in_struct w f form at fs e o).faults
+struct_within w f form from to at fs e None le less is = is
+struct_within w f form from to at fs e (Some k) le less is = found_within f form from to at fs e (field_by f.name 0 (get_or w.structs k [])) le less is
+
+fielded_within : (w : Whole) (f : Ident) (form : Expr → ℕ → Layer) (from to at : ℕ) (fs : List Fault) (o : Option (Expr × Option ℕ)) → from ≤ at → at < to
     → IsWithin from to fs → IsWithin from to (fielded w f form at fs o).faults
 fielded_within w f form from to at fs None le less is = is
-fielded_within w f form from to at fs (Some e) le less is = found_within f form from to at fs e.0 (field_by f.name 0 (get_or w.structs e.1 [])) le less is
+fielded_within w f form from to at fs (Some e) le less is = struct_within w f form from to at fs e.0 e.1 le less is
 
 more_within : (from to more : ℕ) (fs : List Fault) → to ≤ more → IsWithin from to fs → IsWithin from more fs
 more_within from to more fs le is = record { start = is.start; end = before_more to more fs le is.end }
 
-bounded_field : (w : Whole) (f : Ident) (form : Expr → ℕ → Layer) (p : Part (Expr × ℕ)) → IsBounded p → IsBounded (field_of w f form p)
+bounded_field : (w : Whole) (f : Ident) (form : Expr → ℕ → Layer) (p : Part (Expr × Option ℕ)) → IsBounded p → IsBounded (field_of w f form p)
 bounded_field w f form p is = record {
   within = λ here.
       fielded_within w f form here.at (here.at + (p.tokens + 2)) (here.at + p.tokens + 1) (p.judge here).faults (p.judge here).value (omega arith) (omega arith)
@@ -203,8 +209,8 @@ level_read w line (Source.Index x i) =
     plainly line _ (bounded_obeys mismatch line _ _
     (bounded_first (λ a b. a) (value (expr w x.0) <⊗ tokens 1 ⊗ value (expr w i.0)) (tokens 1)
     (between (λ a b. (a, b)) (value (expr w x.0)) (value (expr w i.0)) (bounded_value (expr w x.0) x.1) (bounded_value (expr w i.0) i.1)) (inside_tokens 1)))
-level_read w line (Source.Field x f) = plainly line _ (bounded_field w f _ _ (bounded_obeys mismatch line _ _ x.1.plain))
-level_read w line (Source.Arrow x f) = plainly line _ (bounded_field w f _ _ (bounded_obeys mismatch line _ _ (bounded_value (expr w x.0) x.1)))
+level_read w line (Source.Field x f) = plainly line _ (bounded_field w f Form-F.Field _ (bounded_obeys mismatch line _ _ x.1.plain))
+level_read w line (Source.Arrow x f) = plainly line _ (bounded_field w f Form-F.Arrow _ (bounded_obeys mismatch line _ _ (bounded_value (expr w x.0) x.1)))
 level_read w line (Source.Number k) = plainly line _ (record { within = λ here. record { start = tt; end = tt }; more = omega arith })
 level_read w line Source.Null = plainly line _ (record { within = λ here. record { start = tt; end = tt }; more = omega arith })
 level_read w line (Source.Name i) = plainly line _ (bounded_name w i)

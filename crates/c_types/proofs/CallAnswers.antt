@@ -93,12 +93,13 @@ freed_same (e ∷ []) = refl
 freed_same (e ∷ f ∷ es) = refl
 
 allocated_type : (s : Size) (n : Expr) (t : ExprType)
-    → elim t as (λ t. Option Expr) [ ExprType.Int ↦ Some (defined.made (ExprType.Pointer s.item) (Form-F.New s.item (Some n))) | _ ↦ None ] ≡ walk.new_by s.item n t
+    → elim t as (λ t. Option Expr) [ ExprType.Int ↦ Some (defined.made (ExprType.Pointer s.item) (Form-F.New s.item (Some n))) | ExprType.Unknown ↦ Some (defined.made (ExprType.Pointer s.item) (Form-F.New s.item (Some n))) | _ ↦ None ] ≡ walk.new_by s.item n t
 allocated_type s n ExprType.Int = refl
 allocated_type s n (ExprType.Pointer t) = refl
 allocated_type s n (ExprType.Place t) = refl
 allocated_type s n ExprType.Null = refl
 allocated_type s n ExprType.Void = refl
+allocated_type s n ExprType.Unknown = refl
 
 allocated_same : (s : Size) → defined.allocated s ≡ walk.allocated_by s.item s.count
 allocated_same s = by s.count where

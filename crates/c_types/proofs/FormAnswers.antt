@@ -18,6 +18,7 @@ use Rattle.c_typed.specs.Whole.{Whole, Builtin, Meaning, meaning, is_main}
 use Rattle.c_typed.specs.Faults.{Rule, unknown, mismatch}
 use Rattle.c_typed.specs.Parts.{Place, Part, tokens, behind, obeys, refused, ◌<⊗◌, ◌⊗>◌, ◌⊗◌}
 use Rattle.c_typed.specs.Tags.{type_name}
+use Rattle.c_typed.specs.Types.{place_of_type}
 use Rattle.c_typed.specs.Exprs as defined
 use Rattle.c_typed.specs.Exprs.{Layer, Reading, one_of, many_of, field_by, found_by, field_of, with_struct, struct_at, struct_behind, name_as, is_malloc}
 use Rattle.c_types.specs.tools.Answers.{least, Answers}
@@ -51,7 +52,7 @@ both_bound f g (Err e) s = refl
 
 -- Names.
 variable_judged : (i : Ident) (b : Binding) (home : Home) (here : Place)
-    → Answers ((name_as i (Meaning.object (variable_at home b.number b.object))).judge here) (Ok (defined.made (ExprType.Place b.object) (walk.home_form home b.number)))
+    → Answers ((name_as i (Meaning.object (variable_at home b.number b.object))).judge here) (Ok (defined.made (place_of_type b.object) (walk.home_form home b.number)))
 variable_judged i b Home.Global here = (refl, refl)
 variable_judged i b Home.Local here = (refl, refl)
 
@@ -147,27 +148,36 @@ found_answers : (f : Ident) (form : Expr → ℕ → Layer) (at : ℕ) (e : Expr
 found_answers f form at e None = λ wanted. record { fault = record { at = at; rule = unknown; line = f.line }; first = refl; told = refl; broken = refl }
 found_answers f form at e (Some m) = (refl, refl)
 
-abbrev member_node : Outline → Ident → (Expr → ℕ → Layer) → Expr × ℕ → Found Expr
-member_node o f form e = node_of form e.0 (walk.member_walk o e.1 f)
+abbrev member_by : Outline → Ident → (Expr → ℕ → Layer) → Expr → Option ℕ → Found Expr
+member_by o f form e None = Ok (defined.untyped (form e 0))
+member_by o f form e (Some k) = node_of form e (walk.member_walk o k f)
 
-field_answers_by : (w : Whole) (o : Outline) → IsOutline w o → (f : Ident) (form : Expr → ℕ → Layer) (p : Part (Expr × ℕ)) (here : Place) (r : Found (Expr × ℕ)) → Answers (p.judge here) r
+abbrev member_node : Outline → Ident → (Expr → ℕ → Layer) → Expr × Option ℕ → Found Expr
+member_node o f form e = member_by o f form e.0 e.1
+
+struct_answers : (w : Whole) (o : Outline) → IsOutline w o → (f : Ident) (form : Expr → ℕ → Layer) (at : ℕ) (e : Expr) (k : Option ℕ) → Answers (defined.in_struct w f form at [] e k) (member_by o f form e k)
+struct_answers w o is f form at e None = (refl, refl)
+struct_answers w o is f form at e (Some k) =
+    let m = field_by f.name 0 (get_or w.structs k []) in
+    subst (Answers (found_by f form at [] e m)) (sym (ap (node_of form e) (member_same w o is k f))) (found_answers f form at e m)
+
+field_answers_by : (w : Whole) (o : Outline) → IsOutline w o → (f : Ident) (form : Expr → ℕ → Layer) (p : Part (Expr × Option ℕ)) (here : Place) (r : Found (Expr × Option ℕ)) → Answers (p.judge here) r
     → Answers ((field_of w f form p).judge here) (r >>= member_node o f form)
 field_answers_by w o is f form p here (Ok e) answers =
     let at = here.at + p.tokens + 1 in
-    let m = field_by f.name 0 (get_or w.structs e.1 []) in
     subst (λ j. Answers j (member_node o f form e))
-    (sym (ap (λ v. defined.fielded w f form at (p.judge here).faults v) answers.1 ∙ ap (λ fs. found_by f form at fs e.0 m) answers.0))
-    (subst (Answers (found_by f form at [] e.0 m)) (sym (ap (node_of form e.0) (member_same w o is e.1 f))) (found_answers f form at e.0 m))
+    (sym (ap (λ v. defined.fielded w f form at (p.judge here).faults v) answers.1 ∙ ap (λ fs. defined.in_struct w f form at fs e.0 e.1) answers.0)) (struct_answers w o is f form at e.0 e.1)
 field_answers_by w o is f form p here (Err e) answers = λ wanted.
     let no = answers wanted in
     let by = ap (λ v. defined.fielded w f form (here.at + p.tokens + 1) (p.judge here).faults v) no.broken in
     record { fault = no.fault; first = ap (λ j. least j.faults) by ∙ no.first; told = no.told; broken = ap (λ j. j.value) by }
 
-struct_then : (o : Outline) (line : Line) (f : Ident) (form : Expr → ℕ → Layer) (e : Expr) (s : Option ℕ) → (kept mismatch line (with_struct e s) >>= member_node o f form) ≡ walk.fielded o line f form e s
+struct_then : (o : Outline) (line : Line) (f : Ident) (form : Expr → ℕ → Layer) (e : Expr) (s : Option (Option ℕ)) → (kept mismatch line (with_struct e s) >>= member_node o f form) ≡ walk.fielded o line f form e s
 struct_then o line f form e None = refl
-struct_then o line f form e (Some k) = refl
+struct_then o line f form e (Some None) = refl
+struct_then o line f form e (Some (Some k)) = refl
 
-pub field_answers : (w : Whole) (o : Outline) → IsOutline w o → (f : Ident) (form : Expr → ℕ → Layer) (line : Line) (struct : ExprType → Option ℕ) (p : Part Expr) (here : Place) (r : Found Expr) → Answers (p.judge here) r
+pub field_answers : (w : Whole) (o : Outline) → IsOutline w o → (f : Ident) (form : Expr → ℕ → Layer) (line : Line) (struct : ExprType → Option (Option ℕ)) (p : Part Expr) (here : Place) (r : Found Expr) → Answers (p.judge here) r
     → Answers ((field_of w f form (obeys mismatch line (λ h e. with_struct e (struct e.typing)) p)).judge here) (r >>= (λ e. walk.fielded o line f form e (struct e.typing)))
 field_answers w o is f form line struct p here r answers =
     let q = obeys mismatch line (λ h e. with_struct e (struct e.typing)) p in

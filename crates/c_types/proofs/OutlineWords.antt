@@ -75,6 +75,7 @@ times_same (m ∷ ns) n =
 item_by : (sizes : List ℕ) (o : Outline) → ((k : ℕ) → shape_words o k ≡ capped (get_or sizes k 0)) → (b : BaseType) (stars : ℕ) → outlines.item_words o b stars ≡ capped (types.item_words sizes b stars)
 item_by sizes o is BaseType.Int zero = refl
 item_by sizes o is (BaseType.Struct k) zero = is k
+item_by sizes o is BaseType.Unknown zero = refl
 item_by sizes o is b (suc s) = refl
 
 pub words_by : (sizes : List ℕ) (o : Outline) → ((k : ℕ) → shape_words o k ≡ capped (get_or sizes k 0)) → (t : ObjectType) → outlines.words_of o t ≡ capped (types.words_of sizes t)

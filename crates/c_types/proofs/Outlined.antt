@@ -21,7 +21,7 @@ use Rattle.c_typed.specs.Whole.{Whole, Member, Signature, Builtin, spelling, bui
 use Rattle.c_typed.specs.Whole as whole
 use Rattle.c_types.specs.tools.Tables.{looked}
 use Rattle.c_types.specs.tools.Outlines
-use Rattle.c_types.specs.tools.Outlines.{spelled, bound, number_of, capped, shape_words}
+use Rattle.c_types.specs.tools.Outlines.{spelled, bound, capped, shape_words}
 
 -- What is looked up, as the definition sees it.
 abbrev pub spelled_builtin : Option Builtin → Spelling
@@ -77,27 +77,8 @@ pub record Names (h : History) (k : Known) : Type 0 where
   pub tags : (x : ℕ) → is_some (looked k.declared.tags x) ≡ has_tag x h
 
 -- Types.
-abbrev place_by : Bool → ℕ → ℕ
-place_by b n = elim b [ true ↦ 0 | false ↦ suc n ]
-
-end_by : (b : Bool) (n m : ℕ) → (nat_lt n m ≡ false → n ≡ m) → nat_lt (place_by b n) (suc m) ≡ false → place_by b n ≡ suc m
-end_by true n m rest is = absurd (grind (arith, nat_tests, is))
-end_by false n m rest is = ap suc (rest (grind (arith, nat_tests, is)))
-
-place_end : (x : ℕ) (ns : List ℕ) → nat_lt (place_of x ns) (length ns) ≡ false → place_of x ns ≡ length ns
-place_end x [] is = refl
-place_end x (n ∷ ns) is = end_by (nat_eq x n) (place_of x ns) (length ns) (place_end x ns) is
-
-abbrev or_count : ℕ → Option ℕ → ℕ
-or_count m None = m
-or_count m (Some k) = k
-
 abbrev below_by : ℕ → Bool → Option ℕ
 below_by n b = elim b [ true ↦ Some n | false ↦ None ]
-
-numbered : (n m : ℕ) (b : Bool) → nat_lt n m ≡ b → (nat_lt n m ≡ false → n ≡ m) → or_count m (below_by n b) ≡ n
-numbered n m true is end = refl
-numbered n m false is end = sym (end is)
 
 -- the tags alone
 pub record IsTagged (tags : List ℕ) (o : Outline) : Type 0 where
@@ -107,24 +88,16 @@ pub record IsTagged (tags : List ℕ) (o : Outline) : Type 0 where
 pub tagged : (w : Whole) (o : Outline) → IsOutline w o → IsTagged w.tags o
 tagged w o is = record { numbers = is.tags; count = is.structs }
 
-tag_place : (tags : List ℕ) (o : Outline) → IsTagged tags o → (x : ℕ) → number_of o x ≡ place_of x tags
-tag_place tags o is x =
-    counted (looked o.tags x) o.structs ∙ ap (λ l. or_count o.structs l) (is.numbers x)
-    ∙ ap (λ m. or_count m (number_below (place_of x tags) (length tags))) is.count
-    ∙ numbered (place_of x tags) (length tags) (nat_lt (place_of x tags) (length tags)) refl (place_end x tags) where
-      counted : (l : Option ℕ) (m : ℕ) → elim l [ None ↦ m | Some k ↦ k ] ≡ or_count m l
-      counted None m = refl
-      counted (Some k) m = refl
+struct_below : (n : ℕ) (b : Bool) → Outlines.struct_by (below_by n b) ≡ elim b as (λ b. BaseType) [ true ↦ BaseType.Struct n | false ↦ BaseType.Unknown ]
+struct_below n true = refl
+struct_below n false = refl
 
 pub base_by : (tags : List ℕ) (o : Outline) → IsTagged tags o → (b : Base) → Outlines.base_type o b ≡ types.base_type tags b
 base_by tags o is (Base.Int line) = refl
-base_by tags o is (Base.Struct line tag) = ap (λ k. BaseType.Struct k) (tag_place tags o is tag.name)
+base_by tags o is (Base.Struct line tag) = ap Outlines.struct_by (is.numbers tag.name) ∙ struct_below (place_of tag.name tags) (nat_lt (place_of tag.name tags) (length tags))
 
 pub pointers_by : (tags : List ℕ) (o : Outline) → IsTagged tags o → (b : Base) (stars : ℕ) → Outlines.pointers_to o b stars ≡ types.pointers_to tags b stars
 pointers_by tags o is b stars = ap (λ b. record { base = b; stars = stars; lengths = [] }) (base_by tags o is b)
-
-pub tag_number : (w : Whole) (o : Outline) → IsOutline w o → (x : ℕ) → number_of o x ≡ place_of x w.tags
-tag_number w o is x = tag_place w.tags o (tagged w o is) x
 
 pub base_same : (w : Whole) (o : Outline) → IsOutline w o → (b : Base) → Outlines.base_type o b ≡ types.base_type w.tags b
 base_same w o is b = base_by w.tags o (tagged w o is) b

@@ -113,20 +113,6 @@ module _ (w : Whole) (o : Outline) (is : IsOutline w o) (counted : length w.stru
   function_same : (x : ℕ) → signature_at (defined o x) ≡ programs.function_of w x
   function_same x = ap (λ l. signature_at (defined_at o l)) (is.numbers x) ∙ meant (place_of x (map (λ s. s.name) w.functions))
 
-  -- its types agree
-  struct_same : (b : BaseType) → walk.has_struct o b ≡ programs.has_struct w b
-  struct_same BaseType.Int = refl
-  struct_same (BaseType.Struct k) = ap (nat_lt k) (is.structs ∙ sym counted)
-
-  structs_same : (ts : List ObjectType) → walk.have_structs o ts ≡ programs.have_structs w ts
-  structs_same [] = refl
-  structs_same (t ∷ ts) = ap (λ b. b && walk.have_structs o ts) (struct_same t.base) ∙ ap (λ b. programs.has_struct w t.base && b) (structs_same ts)
-
-  agrees_same : (result : Option ObjectType) (ts : List ObjectType) (s : OutlineSignature) → walk.agrees o result ts s ≡ programs.agrees w result ts (Some (signature_of s))
-  agrees_same result ts s =
-      let same = same_result result s.result && same_objects ts s.parameters in
-      ap (λ b. not b || same) (structs_same (types_in result ts))
-
   list_types : (ps : List ProtoParam) → walk.proto_types o (ProtoParams.List ps) ≡ programs.proto_types w.tags (ProtoParams.List ps)
   list_types [] = refl
   list_types (p ∷ ps) =
@@ -141,7 +127,7 @@ module _ (w : Whole) (o : Outline) (is : IsOutline w o) (counted : length w.stru
   abbrev fits : Proto → Option Signature → Bool
   fits p s =
       let result = types.result_type w.tags p.result in
-      has_scalar_result result && programs.agrees w result (programs.proto_types w.tags p.params) s
+      has_scalar_result result && programs.agrees result (programs.proto_types w.tags p.params) s
       && (not (whole.is_main w p.name.name) || (is_int p.result && no_proto_parameters p.params))
 
   fits_same : (p : Proto) (s : OutlineSignature) → walk.proto_fits o p (outlines.result_type o p.result) (walk.proto_types o p.params) s ≡ fits p (Some (signature_of s))
@@ -149,8 +135,7 @@ module _ (w : Whole) (o : Outline) (is : IsOutline w o) (counted : length w.stru
       let result = types.result_type w.tags p.result in
       ap (λ r. walk.proto_fits o p r (walk.proto_types o p.params) s) (result_same w.tags o (tagged w o is) p.result)
       ∙ ap (λ ts. walk.proto_fits o p result ts s) (types_same p.params)
-      ∙ ap (λ b. has_scalar_result result && b && walk.fits_main o p.name.name (is_plain_proto p)) (agrees_same result (programs.proto_types w.tags p.params) s)
-      ∙ ap (λ b. has_scalar_result result && programs.agrees w result (programs.proto_types w.tags p.params) (Some (signature_of s)) && (not b || is_plain_proto p)) (main_same w o is p.name.name)
+      ∙ ap (λ b. has_scalar_result result && programs.agrees result (programs.proto_types w.tags p.params) (Some (signature_of s)) && (not b || is_plain_proto p)) (main_same w o is p.name.name)
 
   -- The rules of its name.
   abbrev name_tests : Proto → History → Option Signature → List Test

@@ -49,6 +49,7 @@ use Rattle.c_types.proofs.ItemStands.{Opened}
 pointer_scalar : (b : BaseType) (n : ℕ) → is_scalar (record { base = b; stars = suc n; lengths = [] }) ≡ true
 pointer_scalar BaseType.Int n = refl
 pointer_scalar (BaseType.Struct k) n = refl
+pointer_scalar BaseType.Unknown n = refl
 
 -- so is a parameter whose brackets have no item
 bracket_scalar : (b : BaseType) (stars : ℕ) (brackets : Brackets) → bracket_items brackets ≡ false → is_scalar (record { base = b; stars = parameter_stars stars brackets; lengths = [] }) ≡ true

@@ -111,9 +111,10 @@ shape_named : (f : Ident) (s : Option Shape) → IsNamed (elim s as (λ s. Found
 shape_named f None = tt
 shape_named f (Some s) = index_named f s.members (walk.index_by f.name 0 s.members)
 
-fielded_named : (o : Outline) (line : Line) (f : Ident) (form : Expr → ℕ → Layer) (e : Expr) (n : Option ℕ) → IsNamed (walk.fielded o line f form e n)
+fielded_named : (o : Outline) (line : Line) (f : Ident) (form : Expr → ℕ → Layer) (e : Expr) (n : Option (Option ℕ)) → IsNamed (walk.fielded o line f form e n)
 fielded_named o line f form e None = tt
-fielded_named o line f form e (Some k) = bind_named (walk.member_walk o k f) _ (shape_named f (slice_get o.shapes k)) (λ m. tt)
+fielded_named o line f form e (Some None) = tt
+fielded_named o line f form e (Some (Some k)) = bind_named (walk.member_walk o k f) _ (shape_named f (slice_get o.shapes k)) (λ m. tt)
 
 -- names and calls
 unbound_named : (o : Outline) (i : Ident) (s : Spelling) (n : Option ℕ) → IsNamed (walk.unbound o i s n)

@@ -93,7 +93,7 @@ fn counted(
 ) -> Result<Expr, TypeFault>
     ensures { Finds result (kept faults.mismatch line (walk.new_by item count count.typing)) }
 {
-    if !matches!(count.get().typing, ExprType::Int) {
+    if !matches!(count.get().typing, ExprType::Int | ExprType::Unknown) {
         return Err(TypeFault::Mismatch { line });
     }
     Ok(of_items(alloc, item, Some(count))?)

@@ -60,7 +60,7 @@ pub fn put_int(alloc: Global, line: Line, values: Items<Expr>) -> Result<Expr, T
     let Some(e) = only(values) else {
         return Err(TypeFault::Mismatch { line });
     };
-    if !matches!(e.typing, ExprType::Int) {
+    if !matches!(e.typing, ExprType::Int | ExprType::Unknown) {
         return refused(e, TypeFault::Mismatch { line });
     }
     Ok(Expr {
@@ -75,7 +75,10 @@ pub fn free(alloc: Global, line: Line, values: Items<Expr>) -> Result<Expr, Type
     let Some(e) = only(values) else {
         return Err(TypeFault::Mismatch { line });
     };
-    if !matches!(e.typing, ExprType::Pointer(_) | ExprType::Null) {
+    if !matches!(
+        e.typing,
+        ExprType::Pointer(_) | ExprType::Null | ExprType::Unknown
+    ) {
         return refused(e, TypeFault::Mismatch { line });
     }
     Ok(Expr {
@@ -94,7 +97,7 @@ pub fn main_called(outline: &Outline, f: Ident) -> TypeFault
     }
 }
 
-/// Whether each value fits its parameter.
+/// Whether each parameter accepts its value.
 fn all_fit(alloc: Global, values: &[Expr], parameters: &[ObjectType]) -> bool
     ensures { result ≡ defined.all_fit values.now parameters.now }
 {
@@ -102,7 +105,7 @@ fn all_fit(alloc: Global, values: &[Expr], parameters: &[ObjectType]) -> bool
         return false;
     }
     for i in 0..values.len() {
-        if !parameters[i].takes(alloc, &values[i].typing) {
+        if !parameters[i].accepts(alloc, &values[i].typing) {
             return false;
         }
     }
@@ -137,7 +140,7 @@ fn called_type(alloc: Global, object: &Option<ObjectType>) -> ExprType
     match object {
         None => ExprType::Void,
         Some(object) => match object.scalar(alloc) {
-            None => ExprType::Void,
+            None => ExprType::Unknown,
             Some(v) => v,
         },
     }

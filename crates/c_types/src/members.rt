@@ -68,6 +68,9 @@ pub fn member_of(
     ensures { Finds result
         (walk.fielded outline.now line field Form-F.Field whole (defined.struct_at whole.typing)) }
 {
+    if whole.typing.is_unknown() {
+        return Ok(nodes::field(alloc, ExprType::Unknown, whole, 0)?);
+    }
     let ExprType::Place(object) = &whole.typing else {
         return refused(whole, TypeFault::Mismatch { line });
     };
@@ -75,7 +78,7 @@ pub fn member_of(
         return refused(whole, TypeFault::Mismatch { line });
     };
     match member(alloc, outline, k, field) {
-        Ok((field, object)) => Ok(nodes::field(alloc, object, whole, field)?),
+        Ok((field, object)) => Ok(nodes::field(alloc, nodes::place_type(object), whole, field)?),
         Err(fault) => refused(whole, fault),
     }
 }
@@ -92,6 +95,9 @@ pub fn member_behind(
         (walk.fielded outline.now line field Form-F.Arrow pointer
         (defined.struct_behind pointer.typing)) }
 {
+    if pointer.typing.is_unknown() {
+        return Ok(nodes::arrow(alloc, ExprType::Unknown, pointer, 0)?);
+    }
     let ExprType::Pointer(object) = &pointer.typing else {
         return refused(pointer, TypeFault::Mismatch { line });
     };
@@ -99,7 +105,7 @@ pub fn member_behind(
         return refused(pointer, TypeFault::Mismatch { line });
     };
     match member(alloc, outline, k, field) {
-        Ok((field, object)) => Ok(nodes::arrow(alloc, object, pointer, field)?),
+        Ok((field, object)) => Ok(nodes::arrow(alloc, nodes::place_type(object), pointer, field)?),
         Err(fault) => refused(pointer, fault),
     }
 }

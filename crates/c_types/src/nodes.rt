@@ -2,6 +2,7 @@
 
 ghost use Rattle.std.specs.Prelude.{◌≡◌, IfOk};
 ghost use Rattle.c_typed.specs.declared.types.ExprType.{ExprType};
+ghost use Rattle.c_typed.specs.Types.{place_of_type};
 ghost use Rattle.c_typed.specs.declared.expr.Form.TheOpen.{Form-F};
 ghost use Rattle.c_typed.specs.Exprs.{made};
 ghost use Rattle.c_types.specs.tools.ExprWalk.{variable_node};
@@ -30,6 +31,17 @@ pub fn null() -> Expr
     }
 }
 
+/// The type of a place at which this stands.
+pub fn place_type(object: ObjectType) -> ExprType
+    ensures { result ≡ place_of_type object }
+{
+    if object.is_known() {
+        ExprType::Place(object)
+    } else {
+        ExprType::Unknown
+    }
+}
+
 /// What stands at a scalar place.
 pub fn read(alloc: Global, typing: ExprType, place: Expr) -> Result<Expr, AllocError>
     ensures { IfOk result (λ e. e ≡ made typing (Form-F.Read place)) }
@@ -50,29 +62,34 @@ pub fn decay(alloc: Global, typing: ExprType, place: Expr) -> Result<Expr, Alloc
     })
 }
 
-pub fn address(alloc: Global, object: ObjectType, place: Expr) -> Result<Expr, AllocError>
-    ensures { IfOk result (λ e. e ≡ made (ExprType.Pointer object) (Form-F.Address place)) }
+pub fn address(alloc: Global, typing: ExprType, place: Expr) -> Result<Expr, AllocError>
+    ensures { IfOk result (λ e. e ≡ made typing (Form-F.Address place)) }
 {
     Ok(Expr {
-        typing: ExprType::Pointer(object),
+        typing,
         form: Form::Address(Boxed::new(alloc, place)?),
     })
 }
 
-pub fn deref(alloc: Global, object: ObjectType, pointer: Expr) -> Result<Expr, AllocError>
-    ensures { IfOk result (λ e. e ≡ made (ExprType.Place object) (Form-F.Deref pointer)) }
+pub fn deref(alloc: Global, typing: ExprType, pointer: Expr) -> Result<Expr, AllocError>
+    ensures { IfOk result (λ e. e ≡ made typing (Form-F.Deref pointer)) }
 {
     Ok(Expr {
-        typing: ExprType::Place(object),
+        typing,
         form: Form::Deref(Boxed::new(alloc, pointer)?),
     })
 }
 
-pub fn prefix(alloc: Global, op: PrefixOp, operand: Expr) -> Result<Expr, AllocError>
-    ensures { IfOk result (λ e. e ≡ made ExprType.Int (Form-F.Prefix op operand)) }
+pub fn prefix(
+    alloc: Global,
+    typing: ExprType,
+    op: PrefixOp,
+    operand: Expr,
+) -> Result<Expr, AllocError>
+    ensures { IfOk result (λ e. e ≡ made typing (Form-F.Prefix op operand)) }
 {
     Ok(Expr {
-        typing: ExprType::Int,
+        typing,
         form: Form::Prefix {
             op,
             operand: Boxed::new(alloc, operand)?,
@@ -82,15 +99,15 @@ pub fn prefix(alloc: Global, op: PrefixOp, operand: Expr) -> Result<Expr, AllocE
 
 pub fn index(
     alloc: Global,
-    object: ObjectType,
+    typing: ExprType,
     pointer: Boxed<Expr>,
     index: Expr,
 ) -> Result<Expr, AllocError>
-    ensures { IfOk result (λ e. e ≡ made (ExprType.Place object) (Form-F.Index pointer index)) }
+    ensures { IfOk result (λ e. e ≡ made typing (Form-F.Index pointer index)) }
 {
     let index = Boxed::new(alloc, index)?;
     Ok(Expr {
-        typing: ExprType::Place(object),
+        typing,
         form: Form::Index { pointer, index },
     })
 }
@@ -112,11 +129,11 @@ pub fn binary(
 }
 
 /// A field of a struct.
-pub fn field(alloc: Global, object: ObjectType, whole: Expr, field: u32) -> Result<Expr, AllocError>
-    ensures { IfOk result (λ e. e ≡ made (ExprType.Place object) (Form-F.Field whole field)) }
+pub fn field(alloc: Global, typing: ExprType, whole: Expr, field: u32) -> Result<Expr, AllocError>
+    ensures { IfOk result (λ e. e ≡ made typing (Form-F.Field whole field)) }
 {
     Ok(Expr {
-        typing: ExprType::Place(object),
+        typing,
         form: Form::Field {
             whole: Boxed::new(alloc, whole)?,
             field,
@@ -125,16 +142,11 @@ pub fn field(alloc: Global, object: ObjectType, whole: Expr, field: u32) -> Resu
 }
 
 /// A field of the struct that a pointer points to.
-pub fn arrow(
-    alloc: Global,
-    object: ObjectType,
-    pointer: Expr,
-    field: u32,
-) -> Result<Expr, AllocError>
-    ensures { IfOk result (λ e. e ≡ made (ExprType.Place object) (Form-F.Arrow pointer field)) }
+pub fn arrow(alloc: Global, typing: ExprType, pointer: Expr, field: u32) -> Result<Expr, AllocError>
+    ensures { IfOk result (λ e. e ≡ made typing (Form-F.Arrow pointer field)) }
 {
     Ok(Expr {
-        typing: ExprType::Place(object),
+        typing,
         form: Form::Arrow {
             pointer: Boxed::new(alloc, pointer)?,
             field,
@@ -151,7 +163,7 @@ pub fn variable(alloc: Global, binding: &Binding) -> Result<Expr, AllocError>
         Home::Local => Form::Local(binding.number),
     };
     Ok(Expr {
-        typing: ExprType::Place(object),
+        typing: place_type(object),
         form,
     })
 }

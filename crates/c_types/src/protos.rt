@@ -1,7 +1,9 @@
 //! Prototypes (C99 6.7.5.3).
 
-ghost use Rattle.std.specs.Prelude.{◌≡◌, Ok, map};
+ghost use Rattle.std.specs.Prelude.{◌≡◌, ◌&&◌, Ok, map};
 ghost use Rattle.std.specs.Option.{option_copied};
+ghost use Rattle.c_typed.specs.Types.{is_known};
+ghost use Rattle.c_typed.specs.Decls.{is_scalar};
 ghost use Rattle.c_typed.specs.Programs as programs;
 ghost use Rattle.c_types.specs.tools.Steps.{Finds, Leaves};
 ghost use Rattle.c_types.specs.tools.DeclWalk as decls;
@@ -13,7 +15,7 @@ use crate::known::Known;
 use crate::outline::{Outline, Signature};
 use crate::params::proto_params;
 use c_ast::{Proto, ProtoParam, ProtoParams};
-use c_typed::{BaseType, ObjectType, TypeFault};
+use c_typed::{ObjectType, TypeFault};
 use sqlite_items::Items;
 use std::alloc::Global;
 
@@ -50,6 +52,42 @@ fn same_result(left: &Option<ObjectType>, right: &Option<ObjectType>) -> bool
     }
 }
 
+/// Whether a part of a prototype or of a function has no fault of its own: no unknown tag, and no struct.
+fn is_sound(alloc: Global, t: &ObjectType) -> bool
+    ensures { result ≡ (is_known t.now && is_scalar t.now) }
+{
+    t.is_known() && t.is_scalar(alloc)
+}
+
+fn are_sound(alloc: Global, types: &[ObjectType]) -> bool
+    ensures { result ≡ programs.are_sound types.now }
+{
+    for t in types {
+        if !is_sound(alloc, t) {
+            return false;
+        }
+    }
+    true
+}
+
+fn all_sound(alloc: Global, t: &Option<ObjectType>, types: &[ObjectType]) -> bool
+    ensures { result ≡ programs.are_sound (programs.types_in t.now types.now) }
+{
+    match t {
+        None => are_sound(alloc, types),
+        Some(t) => is_sound(alloc, t) && are_sound(alloc, types),
+    }
+}
+
+/// Whether a prototype's types are those of its function; where a part of one of them has a fault of its own, they are not
+/// compared.
+fn agrees(alloc: Global, t: &Option<ObjectType>, types: &[ObjectType], s: &Signature) -> bool
+    ensures { result ≡ walk.agrees t.now types.now s.now }
+{
+    !(all_sound(alloc, t, types) && all_sound(alloc, &s.result, s.parameters.as_slice()))
+        || (same_result(t, &s.result) && same_objects(types, s.parameters.as_slice()))
+}
+
 impl Outline {
     fn proto_types_of(
         &self,
@@ -73,44 +111,6 @@ impl Outline {
             ProtoParams::List(ps) => self.proto_types_of(alloc, ps.as_slice()),
             _ => Ok(Items::new(alloc)),
         }
-    }
-
-    /// Whether the text has the struct of a type, if it is of one.
-    fn has_struct(&self, base: BaseType) -> bool
-        ensures { result ≡ walk.has_struct self.now base }
-    {
-        match base {
-            BaseType::Int => true,
-            BaseType::Struct(k) => k < self.structs,
-        }
-    }
-
-    fn have_structs(&self, types: &[ObjectType]) -> bool
-        ensures { result ≡ walk.have_structs self.now types.now }
-    {
-        for t in types {
-            if !self.has_struct(t.base) {
-                return false;
-            }
-        }
-        true
-    }
-
-    fn have_all(&self, t: &Option<ObjectType>, types: &[ObjectType]) -> bool
-        ensures { result ≡ walk.have_all self.now t.now types.now }
-    {
-        match t {
-            None => self.have_structs(types),
-            Some(t) => self.has_struct(t.base) && self.have_structs(types),
-        }
-    }
-
-    /// Whether a prototype's types are those of its function; where it has a tag of no struct, they are not compared.
-    fn agrees(&self, t: &Option<ObjectType>, types: &[ObjectType], s: &Signature) -> bool
-        ensures { result ≡ walk.agrees self.now t.now types.now s.now }
-    {
-        !self.have_all(t, types)
-            || (same_result(t, &s.result) && same_objects(types, s.parameters.as_slice()))
     }
 
     /// The function of this name.
@@ -139,7 +139,7 @@ fn proto_fits(
     ensures { result ≡ walk.proto_fits outline.now p.now t.now types.now s.now }
 {
     has_scalar_result(alloc, t)
-        && outline.agrees(t, types, s)
+        && agrees(alloc, t, types, s)
         && fits_main(outline, p.name.name, is_plain(p))
 }
 

@@ -35,7 +35,7 @@ pub fn value(alloc: Global, line: Line, e: Expr) -> Result<Expr, TypeFault>
 pub fn place(line: Line, e: Expr) -> Result<Expr, TypeFault>
     ensures { Finds result (kept faults.not_lvalue line (defined.place_by_type e e.typing)) }
 {
-    if matches!(e.typing, ExprType::Place(_)) {
+    if matches!(e.typing, ExprType::Place(_) | ExprType::Unknown) {
         Ok(e)
     } else {
         refused(e, TypeFault::NotLvalue { line })
@@ -46,7 +46,7 @@ pub fn place(line: Line, e: Expr) -> Result<Expr, TypeFault>
 pub fn plus(line: Line, e: Expr) -> Result<Expr, TypeFault>
     ensures { Finds result (kept faults.mismatch line (defined.plus e e.typing)) }
 {
-    if matches!(e.typing, ExprType::Int) {
+    if matches!(e.typing, ExprType::Int | ExprType::Unknown) {
         Ok(e)
     } else {
         refused(e, TypeFault::Mismatch { line })
@@ -57,8 +57,11 @@ pub fn plus(line: Line, e: Expr) -> Result<Expr, TypeFault>
 pub fn int_prefix(alloc: Global, line: Line, op: PrefixOp, e: Expr) -> Result<Expr, TypeFault>
     ensures { Finds result (kept faults.mismatch line (defined.int_prefix op e e.typing)) }
 {
+    if e.typing.is_unknown() {
+        return Ok(nodes::prefix(alloc, ExprType::Unknown, op, e)?);
+    }
     if matches!(e.typing, ExprType::Int) {
-        Ok(nodes::prefix(alloc, op, e)?)
+        Ok(nodes::prefix(alloc, ExprType::Int, op, e)?)
     } else {
         refused(e, TypeFault::Mismatch { line })
     }
@@ -68,8 +71,11 @@ pub fn int_prefix(alloc: Global, line: Line, op: PrefixOp, e: Expr) -> Result<Ex
 pub fn negation(alloc: Global, line: Line, e: Expr) -> Result<Expr, TypeFault>
     ensures { Finds result (kept faults.mismatch line (defined.negation e)) }
 {
+    if e.typing.is_unknown() {
+        return Ok(nodes::prefix(alloc, ExprType::Unknown, PrefixOp::Not, e)?);
+    }
     if e.typing.is_truth() {
-        Ok(nodes::prefix(alloc, PrefixOp::Not, e)?)
+        Ok(nodes::prefix(alloc, ExprType::Int, PrefixOp::Not, e)?)
     } else {
         refused(e, TypeFault::Mismatch { line })
     }
@@ -79,11 +85,14 @@ pub fn negation(alloc: Global, line: Line, e: Expr) -> Result<Expr, TypeFault>
 pub fn pointed_at(alloc: Global, line: Line, e: Expr) -> Result<Expr, TypeFault>
     ensures { Finds result (kept faults.mismatch line (defined.pointed_at e e.typing)) }
 {
+    if e.typing.is_unknown() {
+        return Ok(nodes::deref(alloc, ExprType::Unknown, e)?);
+    }
     let ExprType::Pointer(object) = &e.typing else {
         return refused(e, TypeFault::Mismatch { line });
     };
     match object.copy(alloc) {
-        Ok(object) => Ok(nodes::deref(alloc, object, e)?),
+        Ok(object) => Ok(nodes::deref(alloc, ExprType::Place(object), e)?),
         Err(_) => refused(e, TypeFault::Memory),
     }
 }
@@ -92,6 +101,9 @@ pub fn pointed_at(alloc: Global, line: Line, e: Expr) -> Result<Expr, TypeFault>
 pub fn address(alloc: Global, line: Line, e: Expr) -> Result<Expr, TypeFault>
     ensures { Finds result (kept faults.mismatch line (defined.address e e.typing)) }
 {
+    if e.typing.is_unknown() {
+        return Ok(nodes::address(alloc, ExprType::Unknown, e)?);
+    }
     let ExprType::Place(object) = &e.typing else {
         return refused(e, TypeFault::Mismatch { line });
     };
@@ -99,7 +111,7 @@ pub fn address(alloc: Global, line: Line, e: Expr) -> Result<Expr, TypeFault>
         return refused(e, TypeFault::Mismatch { line });
     }
     match object.copy(alloc) {
-        Ok(object) => Ok(nodes::address(alloc, object, e)?),
+        Ok(object) => Ok(nodes::address(alloc, ExprType::Pointer(object), e)?),
         Err(_) => refused(e, TypeFault::Memory),
     }
 }
@@ -113,6 +125,9 @@ pub fn item_at(
 ) -> Result<Expr, TypeFault>
     ensures { Finds result (kept faults.mismatch line (defined.item_at pointer index pointer.typing index.typing)) }
 {
+    if pointer.get().typing.is_unknown() || index.typing.is_unknown() {
+        return Ok(nodes::index(alloc, ExprType::Unknown, pointer, index)?);
+    }
     let ExprType::Pointer(object) = &pointer.get().typing else {
         return refused((pointer, index), TypeFault::Mismatch { line });
     };
@@ -120,7 +135,7 @@ pub fn item_at(
         return refused((pointer, index), TypeFault::Mismatch { line });
     }
     match object.copy(alloc) {
-        Ok(object) => Ok(nodes::index(alloc, object, pointer, index)?),
+        Ok(object) => Ok(nodes::index(alloc, ExprType::Place(object), pointer, index)?),
         Err(_) => refused((pointer, index), TypeFault::Memory),
     }
 }
@@ -135,6 +150,9 @@ pub fn binary(
 ) -> Result<Expr, TypeFault>
     ensures { Finds result (kept faults.mismatch line (defined.binary op left right)) }
 {
+    if left.get().typing.is_unknown() || right.typing.is_unknown() {
+        return Ok(nodes::binary(alloc, ExprType::Unknown, left, op, right)?);
+    }
     match binary_type(alloc, op, &left.get().typing, &right.typing) {
         Ok(Some(typing)) => Ok(nodes::binary(alloc, typing, left, op, right)?),
         Ok(None) => refused((left, right), TypeFault::Mismatch { line }),

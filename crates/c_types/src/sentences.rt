@@ -32,6 +32,7 @@ fn compounds(op: AssignOp, target: &ExprType, value: &ExprType) -> bool
     ensures { result ≡ defined.compounds op target.now value.now }
 {
     match (target, value) {
+        (ExprType::Unknown, _) | (_, ExprType::Unknown) => true,
         (ExprType::Int, ExprType::Int) => true,
         (ExprType::Pointer(_), ExprType::Int) => moves(op),
         _ => false,
@@ -53,6 +54,7 @@ fn scalar_at(alloc: Global, typing: &ExprType) -> Option<ExprType>
 {
     match typing {
         ExprType::Place(object) => object.scalar(alloc),
+        ExprType::Unknown => Some(ExprType::Unknown),
         _ => None,
     }
 }

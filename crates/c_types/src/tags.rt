@@ -29,7 +29,7 @@ impl Outline {
             Base::Int { .. } => Ok(BaseType::Int),
             Base::Struct { tag, .. } => match self.tags.get(tag.name) {
                 Some(number) => Ok(BaseType::Struct(number)),
-                None => Ok(BaseType::Struct(self.structs)),
+                None => Ok(BaseType::Unknown),
             },
         }
     }

@@ -47,6 +47,7 @@ impl Outline {
                 Some(shape) => shape.words,
                 None => 0,
             },
+            BaseType::Unknown => 0,
         }
     }
 

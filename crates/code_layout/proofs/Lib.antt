@@ -1,2 +1,5 @@
 pub mod Sizes
 pub mod Starts
+pub mod Placed
+pub mod Tables
+pub mod Paths

@@ -1,1 +1,4 @@
 pub mod LaidOut
+pub mod LeadsTo
+pub mod LayoutOf
+pub mod tools

@@ -1,13 +1,11 @@
 ghost use Rattle.std.specs.Prelude.{◌≡◌, ℕ, ◌+◌, ◌<◌, ◌≤◌, length, slice_index, IfOk};
 ghost use Rattle.code_layout.specs.LaidOut.{IsLaidOut, global_start};
 
+use crate::memory::globals_from;
 use crate::shapes::{shape_sizes, size_at};
 use dfi_base::Memory;
 use std::alloc::Global;
 use tac_ir::Code;
-
-// The words before the globals are reserved.
-const RESERVED: u32 = 16;
 
 /// The first word of each global, and behind them the first word after all of them.
 pub fn global_starts(alloc: Global, code: &Code) -> Result<Vec<u32>, Memory>
@@ -22,7 +20,7 @@ pub fn global_starts(alloc: Global, code: &Code) -> Result<Vec<u32>, Memory>
 {
     let sizes = shape_sizes(alloc, code)?;
     let mut starts = Vec::new(alloc);
-    let mut next = RESERVED;
+    let mut next = globals_from();
     for global in code.globals.as_slice() {
         starts.push(next)?;
         next += size_at(sizes.as_slice(), global.shape);

@@ -1,10 +1,17 @@
-//! Where the globals of code stand, by the sizes of their shapes. `specs/` says which code this is for.
+//! Where things stand in code and in memory: the bounds of the memory, the words of shapes, and a layout, which has all offsets of a
+//! code, computed once. `specs/` says which numbers a layout of a code has.
 #![tactic(auto)]
 
+mod frames;
 mod globals;
+mod layout;
+mod memory;
+mod offsets;
+mod places;
 mod shapes;
-#[cfg(test)]
-mod tests;
+mod temps;
 
 pub use globals::global_starts;
+pub use layout::Layout;
+pub use memory::{globals_from, heap_from, memory_words, stack_from};
 pub use shapes::shape_sizes;

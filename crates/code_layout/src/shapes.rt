@@ -30,16 +30,16 @@ fn words_of(shape: &Shape, sizes: &[u32]) -> u32
     match shape {
         Shape::Int | Shape::Ptr => 1,
         Shape::Array { len, item } => *len * size_at(sizes, *item),
-        Shape::Struct { parts } => words_of_parts(parts.as_slice(), sizes),
+        Shape::Struct { parts } => words_of_all(parts.as_slice(), sizes),
     }
 }
 
-// The words of a struct of these shapes.
-fn words_of_parts(parts: &[u32], sizes: &[u32]) -> u32
-    requires { sum (map (slice_index sizes.now) parts.now) < 2 ^ 32 }
-    ensures { result ≡ sum (map (slice_index sizes.now) parts.now) }
+/// The words of all these shapes.
+pub(crate) fn words_of_all(shapes: &[u32], sizes: &[u32]) -> u32
+    requires { sum (map (slice_index sizes.now) shapes.now) < 2 ^ 32 }
+    ensures { result ≡ sum (map (slice_index sizes.now) shapes.now) }
 {
-    parts.iter().map(|part| size_at(sizes, *part)).sum()
+    shapes.iter().map(|shape| size_at(sizes, *shape)).sum()
 }
 
 /// The words of shape `shape`, and 0 where there is none.

@@ -1,2 +1,13 @@
 pub mod Gives
+pub mod Failed
+pub mod Limits
+pub mod MemoryMap
+pub mod Words
+pub mod Names
 pub mod Lives
+pub mod Grown
+pub mod Joined
+pub mod Alike
+pub mod Told
+pub mod Laws
+pub mod WordLaws

@@ -3,6 +3,8 @@
 
 mod build_source;
 mod fault;
+mod law;
 
 pub use build_source::build;
 pub use fault::BuildFault;
+pub use law::one_build;

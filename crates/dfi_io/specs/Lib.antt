@@ -1,8 +1,10 @@
-pub mod Causes
+pub mod Counted
 pub mod Files
 pub mod FolderView
 pub mod Held
+pub mod Laws
 pub mod Loads
+pub mod Outside
 pub mod PadView
 pub mod ShelfView
 pub mod Writes

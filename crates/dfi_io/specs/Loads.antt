@@ -1,12 +1,10 @@
 -- What a load answers, and what it leaves.
-use Rattle.std.specs.Prelude.{◌≡◌, ℕ, ◌<◌, ◌≤◌, ◌==◌, Bool, ◌||◌, if◌then◌else◌, nat_lt, List, [], length, Option, None, Some, unwrap_or, is_none, Result, Ok, Err, Vec}
+use Rattle.std.specs.Prelude.{ℕ, ◌==◌, Bool, ◌||◌, if◌then◌else◌, nat_lt, List, [], length, unwrap_or, is_none, Result, Ok, Err}
 use Rattle.std.specs.List.{list_any}
-use Rattle.std.specs.declared.alloc.Global.{Global}
-use Rattle.dfi_base.specs.Gives.{Gives}
-use Rattle.dfi_io.specs.Causes.{counted}
+use Rattle.dfi_io.specs.Counted.{counted}
 use Rattle.dfi_io.specs.Files.{Files, file_of}
 use Rattle.dfi_io.specs.declared.fault.LoadFault.{LoadFault}
-use Rattle.dfi_io.specs.declared.fault.LoadFault.TheVariants.{Failed, Long, Memory}
+use Rattle.dfi_io.specs.declared.fault.LoadFault.TheVariants.{Failed, Long}
 
 -- whether the next load fails: its number is in the plan, or the name is no file's
 abbrev pub load_fails : Files → List ℕ → Bool
@@ -21,20 +19,3 @@ load_of f name limit =
 -- one load with this limit counted, and all else as it was
 abbrev pub after_load : ℕ → Files → Files
 after_load limit f = record f { loads = counted f.loads; limit = limit }
-
--- a fault, where it is not want of memory
-abbrev pub load_refusal : LoadFault → Option LoadFault
-load_refusal Failed = Some Failed
-load_refusal Long = Some Long
-load_refusal Memory = None
-
--- a load of this name with this limit answers what load_of says
-abbrev pub LoadAnswers : Files → List ℕ → ℕ → Result (Vec ℕ Global) LoadFault → Type 0
-LoadAnswers f name limit result = Gives (λ v. v.items) load_refusal result (load_of f name limit)
-
--- as many bytes came as the load took, and no more than the limit; more than the limit were too many
-abbrev pub IsWithin : ℕ → ℕ → Result (Vec ℕ Global) LoadFault → Type 0
-IsWithin limit took (Ok v) = (length v.items ≡ took) × (took ≤ limit)
-IsWithin limit took (Err Failed) = Unit {0}
-IsWithin limit took (Err Long) = limit < took
-IsWithin limit took (Err Memory) = Unit {0}

@@ -1,6 +1,6 @@
 -- What contracts see of a pad.
 use Rattle.std.specs.Prelude.{ℕ, List, if◌then◌else◌}
-use Rattle.dfi_io.specs.Causes.{counted}
+use Rattle.dfi_io.specs.Counted.{counted}
 use Rattle.dfi_io.specs.Held.{Held}
 use Rattle.dfi_io.specs.Writes.{write_fails, after_write}
 

@@ -1,6 +1,6 @@
 -- What contracts see of a shelf.
 use Rattle.std.specs.Prelude.{ℕ, List, [], ◌∷◌, length, if◌then◌else◌, unwrap_or}
-use Rattle.dfi_io.specs.Causes.{counted}
+use Rattle.dfi_io.specs.Counted.{counted}
 use Rattle.dfi_io.specs.Files.{Files, file_of}
 use Rattle.dfi_io.specs.Loads.{load_fails, after_load}
 

@@ -2,7 +2,7 @@
 use Rattle.std.specs.Prelude.{ℕ, ◌-◌, ◌==◌, Bool, ◌||◌, if◌then◌else◌, nat_lt, List, [], ◌++◌, length, take, Option, is_some}
 use Rattle.std.specs.Map.{lookup}
 use Rattle.std.specs.Option.{option_map_or}
-use Rattle.dfi_io.specs.Causes.{counted}
+use Rattle.dfi_io.specs.Counted.{counted}
 use Rattle.dfi_io.specs.Held.{Held}
 
 -- after how many bytes the next write is to stop, if it is

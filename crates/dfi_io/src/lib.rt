@@ -4,6 +4,7 @@
 mod console;
 mod fault;
 mod folder;
+mod law;
 mod library;
 mod pad;
 mod shelf;
@@ -12,6 +13,7 @@ mod sink;
 pub use console::Console;
 pub use fault::{LoadFault, SinkFault};
 pub use folder::Folder;
+pub use law::faults_counted;
 pub use library::Library;
 pub use pad::Pad;
 pub use shelf::Shelf;

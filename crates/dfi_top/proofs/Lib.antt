@@ -1,4 +1,6 @@
-pub mod ManyLoads
 pub mod Onward
 pub mod RunLemmas
 pub mod Replies
+pub mod Told
+pub mod OneAnswer
+pub mod Complete

@@ -1,29 +1,46 @@
 -- From a stage of a call to the stage before it.
-use Rattle.std.proofs.Common.{ℕ, Option, Result, Ok, Err, List, [], ◌∷◌, IfOk}
+use Rattle.std.proofs.Common.{◌≡◌, ℕ, Result, Ok, Err, IfOk, List, [], ◌∷◌, inl, inr, refl, sym, subst}
 use Rattle.dfi_base.specs.declared.memory.Memory.{Memory}
-use Rattle.dfi_io.specs.Files.{Files}
-use Rattle.dfi_top.specs.Loads.{Load, AreLoads}
-use Rattle.dfi_top.specs.Reply.{Said}
-use Rattle.dfi_top.specs.tools.Stages.{Goes}
-use Rattle.dfi_top.proofs.ManyLoads.{more}
+use Rattle.dfi_io.specs.Outside.{Load, Loaded, LibraryTells, IsLoad}
+use Rattle.dfi_io.specs.declared.fault.LoadFault.TheVariants.{Failed}
+use Rattle.tac_ir.specs.declared.run.End.{End}
+use Rattle.dfi_top.specs.declared.reply.Reply.{Reply}
+use Rattle.dfi_top.specs.Loads.{with_last_failed}
+use Rattle.dfi_top.specs.Reply.{Said, Ends, Given, Behind, RefusesLoad, said_by}
+use Rattle.dfi_top.specs.Texts.{failed_text}
+use Rattle.dfi_top.specs.tools.Stages.{MayLoad, Goes}
+
+-- what is said of a load that failed
+abbrev failed_said : List ℕ → Said
+failed_said name = record { status = 6; text = failed_text name; journal = record { entries = []; end = End.NoRun } }
+
+failed_load : (name : List ℕ) → RefusesLoad name Failed (failed_said name)
+failed_load name = record { status_is = refl; text_is = refl; no_run = (refl, refl) }
+
+may_load : (name : List ℕ) (limit : ℕ) (Then : List ℕ → List Load → Said → Type 0) (gave : Loaded) (loads : List Load)
+    → MayLoad (Given name Then gave) loads → MayLoad (Behind name limit Then) (record { name = name; limit = limit; gave = gave } ∷ loads)
+may_load name limit Then gave [] m = inr (failed_said name, ((refl, refl), (refl, failed_load name)))
+may_load name limit Then gave (next ∷ loads) (inl e) =
+    inr (subst (λ xs. (said : Said) × Behind name limit Then (with_last_failed (record { name = name; limit = limit; gave = gave } ∷ xs)) said) (sym e)
+    (failed_said name, ((refl, refl), (refl, failed_load name))))
+may_load name limit Then gave (next ∷ loads) (inr m) = inr (m.0, ((refl, refl), m.1))
 
 -- a stage behind one load
-pub behind : {Lib R : Type 0} (view : R → Said) {told : Lib → Option Files} {faults took : Lib → ℕ} {lib mid : Lib} (lib' : Lib) (l : Load) (replies onward : List Load → Said → Type 0) (may further : List Load → Type 0)
-    → AreLoads told faults took (l ∷ []) lib mid → ((loads : List Load) (s : Said) → replies loads s → onward (l ∷ loads) s) → ((loads : List Load) → may loads → further (l ∷ loads))
-    → (r : Result R Memory) → Goes view told faults took replies may mid lib' r → Goes view told faults took onward further lib lib' r
-behind view lib' l replies onward may further loaded on far (Ok r) h = (l ∷ h.0, more l h.0 loaded h.1, on h.0 (view r) h.2)
-behind view lib' l replies onward may further loaded on far (Err e) h = (l ∷ h.0, more l h.0 loaded h.1, far h.0 h.2)
+pub behind : {L : Type 0} {tells : LibraryTells L} {before mid : L} (after : L) (name : List ℕ) (limit : ℕ) (Then : List ℕ → List Load → Said → Type 0) (gave : Loaded)
+    → IsLoad tells (record { name = name; limit = limit; gave = gave }) before mid → (r : Result Reply Memory) → Goes said_by tells (Given name Then gave) mid after r
+    → Goes said_by tells (Behind name limit Then) before after r
+behind {mid = mid} after name limit Then gave is (Ok r) h = (record { name = name; limit = limit; gave = gave } ∷ h.0, (mid, is, h.1), ((refl, refl), h.2))
+behind {mid = mid} after name limit Then gave is (Err e) h = (record { name = name; limit = limit; gave = gave } ∷ h.0, (mid, is, h.1), may_load name limit Then gave h.0 h.2)
 
--- a stage that says more of the same loads
-pub alike : {Lib R : Type 0} (view : R → Said) (told : Lib → Option Files) (faults took : Lib → ℕ) (lib lib' : Lib) (replies onward : List Load → Said → Type 0) (may further : List Load → Type 0)
-    → ((loads : List Load) (s : Said) → replies loads s → onward loads s) → ((loads : List Load) → may loads → further loads)
-    → (r : Result R Memory) → Goes view told faults took replies may lib lib' r → Goes view told faults took onward further lib lib' r
-alike view told faults took lib lib' replies onward may further on far (Ok r) h = (h.0, h.1, on h.0 (view r) h.2)
-alike view told faults took lib lib' replies onward may further on far (Err e) h = (h.0, h.1, far h.0 h.2)
+-- a stage that loads nothing
+pub ends : {L : Type 0} (tells : LibraryTells L) (lib : L) (Saying : Said → Type 0) (r : Result Reply Memory) → IfOk r (λ x. Saying (said_by x))
+    → Goes said_by tells (Ends Saying) lib lib r
+ends tells lib Saying (Ok r) h = ([], refl, (refl, h))
+ends tells lib Saying (Err e) h = ([], refl, inl refl)
 
--- what is said behind these loads, with no load more
-pub ends : {Lib R : Type 0} (view : R → Said) {told : Lib → Option Files} {faults took : Lib → ℕ} {lib lib' : Lib} (loads : List Load) (P : Said → Type 0) (replies : List Load → Said → Type 0) (may : List Load → Type 0)
-    → AreLoads told faults took loads lib lib' → ((s : Said) → P s → replies loads s) → may loads
-    → (r : Result R Memory) → IfOk r (λ x. P (view x)) → Goes view told faults took replies may lib lib' r
-ends view loads P replies may loaded on far (Ok r) h = (loads, loaded, on (view r) h)
-ends view loads P replies may loaded on far (Err e) h = (loads, loaded, far)
+-- a stage that is one way to go on
+pub alike : {L : Type 0} (tells : LibraryTells L) (before after : L) (Later Whole : List Load → Said → Type 0) → ((loads : List Load) (s : Said) → Later loads s → Whole loads s)
+    → (r : Result Reply Memory) → Goes said_by tells Later before after r → Goes said_by tells Whole before after r
+alike tells before after Later Whole on (Ok r) h = (h.0, h.1, on h.0 (said_by r) h.2)
+alike tells before after Later Whole on (Err e) (loads, loaded, inl none) = (loads, loaded, inl none)
+alike tells before after Later Whole on (Err e) (loads, loaded, inr some) = (loads, loaded, inr (some.0, on (with_last_failed loads) some.0 some.1))

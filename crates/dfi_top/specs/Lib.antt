@@ -1,7 +1,7 @@
 pub mod Texts
 pub mod Loads
 pub mod Reply
-pub mod Course
 pub mod Checked
+pub mod Laws
 pub mod TopCall
 pub mod tools

@@ -1,6 +1,8 @@
 -- What a call says, by its words and by what its loads gave: the first refusal, or the text that was asked for.
 use Rattle.std.specs.Prelude.{◌≡◌, ◌⊎◌, ℕ, ℤ, Option, None, Some, Ok, Err, List, [], ◌∷◌}
+use Rattle.dfi_base.specs.Limits.{file_limit, list_limit}
 use Rattle.dfi_base.specs.declared.numbers.Name.{Name}
+use Rattle.dfi_io.specs.Outside.{Loaded, Load}
 use Rattle.dfi_io.specs.declared.fault.LoadFault.{LoadFault}
 use Rattle.dfi_io.specs.declared.fault.LoadFault.TheVariants.{Failed, Long, Memory}
 use Rattle.tac_ir.specs.declared.run.End.{End}
@@ -20,14 +22,6 @@ use Rattle.dfi_build.specs.declared.fault.BuildFault.{BuildFault}
 use Rattle.dfi_build.specs.Builds.{IsFaultOf, IsModuleOf}
 use Rattle.fault_text.specs.FaultText.{text_of as fault_text}
 use Rattle.dfi_top.specs.Texts.{usage_text, failed_text, long_text, input_text, name_bytes_text, names_text}
-use Rattle.dfi_top.specs.Loads.{Loaded, Load}
-
--- the greatest lengths of a source, and of an input or a list of names, in bytes
-abbrev pub file_limit : ℕ
-file_limit = 67108864
-
-abbrev pub list_limit : ℕ
-list_limit = 16777216
 
 -- there was no run
 abbrev pub NoJournal : Journal → Type 0
@@ -87,53 +81,65 @@ abbrev pub RepliesToTurns : Module → List ℤ → ℕ → List Name → Said �
 RepliesToTurns m input budget names s =
     RunsAlong m input budget names s ⊎ ((k : ℕ) × core.IsRefusedAt m input budget names k × Says 1 (names_text k) s)
 
--- The loads are these, in this order: a list of loads is taken from the front, and none may be left.
+-- ---- The loads, in their order. Each stage says of the loads that are left what is said by them.
 
-abbrev pub NamesGave : Module → List ℤ → ℕ → List ℕ → Loaded → Said → Type 0
-NamesGave m input budget name (Err fault) s = RefusesLoad name fault s
-NamesGave m input budget name (Ok bytes) s =
-    ((at : ℕ) × IsRefusedAt name_of bytes at × Says 1 (name_bytes_text at) s)
-    ⊎ ((names : List Name) × (list_of name_of bytes ≡ Some names) × RepliesToTurns m input budget names s)
+-- no load more, and this is said
+abbrev pub Ends : (Said → Type 0) → List Load → Said → Type 0
+Ends Saying loads s = (loads ≡ []) × Saying s
 
 -- a load of the file of this name within the limit
 abbrev pub IsLoadOf : List ℕ → ℕ → Load → Type 0
-IsLoadOf name limit l = (l.name ≡ name) × (l.limit ≡ limit)
+IsLoadOf name limit load = (load.name ≡ name) × (load.limit ≡ limit)
 
--- Behind the numbers of an input: the names, where a file of names is given, and the run.
+-- behind a load that gave no bytes goes its refusal, else what the bytes leave to say
+abbrev pub Given : List ℕ → (List ℕ → List Load → Said → Type 0) → Loaded → List Load → Said → Type 0
+Given name Then (Err fault) = Ends (RefusesLoad name fault)
+Given name Then (Ok bytes) = Then bytes
+
+-- one load of this file, and what goes behind it
+abbrev pub Behind : List ℕ → ℕ → (List ℕ → List Load → Said → Type 0) → List Load → Said → Type 0
+Behind name limit Then [] s = ⊥
+Behind name limit Then (load ∷ loads) s = IsLoadOf name limit load × Given name Then load.gave loads s
+
+-- bytes that are a list of names, or are refused at their first byte with which no list goes on
+abbrev pub RepliesToNames : Module → List ℤ → ℕ → List ℕ → Said → Type 0
+RepliesToNames m input budget bytes s =
+    ((at : ℕ) × IsRefusedAt name_of bytes at × Says 1 (name_bytes_text at) s)
+    ⊎ ((names : List Name) × (list_of name_of bytes ≡ Some names) × RepliesToTurns m input budget names s)
+
+-- behind the numbers of an input: the names, where a file of names is given, and the run
 abbrev pub RepliesToNumbers : Module → List ℤ → ℕ → Option (List ℕ) → List Load → Said → Type 0
-RepliesToNumbers m input budget None [] s = RunsByLeast m input budget s
-RepliesToNumbers m input budget (Some name) (l ∷ []) s = IsLoadOf name list_limit l × NamesGave m input budget name l.gave s
-RepliesToNumbers m input budget names loads s = ⊥
+RepliesToNumbers m input budget None = Ends (RunsByLeast m input budget)
+RepliesToNumbers m input budget (Some name) = Behind name list_limit (λ bytes. Ends (RepliesToNames m input budget bytes))
 
--- Behind the load of the input.
-abbrev pub InputGave : Replay → Module → Loaded → List Load → Said → Type 0
-InputGave t m (Err fault) loads s = (loads ≡ []) × RefusesLoad t.input fault s
-InputGave t m (Ok bytes) loads s =
-    ((loads ≡ []) × ((at : ℕ) × IsRefusedAt int_of bytes at × Says 1 (input_text at) s))
+-- an input is refused at its first byte with which no list goes on
+abbrev pub RefusesInput : List ℕ → Said → Type 0
+RefusesInput bytes s = (at : ℕ) × IsRefusedAt int_of bytes at × Says 1 (input_text at) s
+
+abbrev pub RepliesToInput : Replay → Module → List ℕ → List Load → Said → Type 0
+RepliesToInput t m bytes loads s =
+    Ends (RefusesInput bytes) loads s
     ⊎ ((numbers : List ℤ) × (list_of int_of bytes ≡ Some numbers) × RepliesToNumbers m numbers t.budget t.names loads s)
 
 abbrev pub RepliesToModule : Replay → Module → List Load → Said → Type 0
-RepliesToModule t m [] s = ⊥
-RepliesToModule t m (l ∷ loads) s = IsLoadOf t.input list_limit l × InputGave t m l.gave loads s
+RepliesToModule t m = Behind t.input list_limit (RepliesToInput t m)
 
--- Behind the load of the source: its first fault, or its module.
-abbrev pub FileGave : Replay → Loaded → List Load → Said → Type 0
-FileGave t (Err fault) loads s = (loads ≡ []) × RefusesLoad t.file fault s
-FileGave t (Ok bytes) loads s =
-    ((loads ≡ []) × ((fault : BuildFault) × IsFaultOf bytes fault × Says 1 (fault_text bytes fault) s))
-    ⊎ ((m : Module) × IsModuleOf bytes m × RepliesToModule t m loads s)
+-- a source is refused by its first fault
+abbrev pub RefusesSource : List ℕ → Said → Type 0
+RefusesSource bytes s = (fault : BuildFault) × IsFaultOf bytes fault × Says 1 (fault_text bytes fault) s
+
+abbrev pub RepliesToSource : Replay → List ℕ → List Load → Said → Type 0
+RepliesToSource t bytes loads s = Ends (RefusesSource bytes) loads s ⊎ ((m : Module) × IsModuleOf bytes m × RepliesToModule t m loads s)
 
 abbrev pub RepliesToReplay : Replay → List Load → Said → Type 0
-RepliesToReplay t [] s = ⊥
-RepliesToReplay t (l ∷ loads) s = IsLoadOf t.file file_limit l × FileGave t l.gave loads s
+RepliesToReplay t = Behind t.file file_limit (RepliesToSource t)
 
 -- What is said to a job. The commands that are not there yet are refused like words that ask for nothing.
 abbrev pub RepliesToJob : Job → List Load → Said → Type 0
-RepliesToJob (jobs.Replay file input names budget) loads s =
-    RepliesToReplay (record { file = file; input = input; names = names; budget = budget }) loads s
-RepliesToJob (jobs.Gen n) loads s = (loads ≡ []) × Says 0 (program_text n) s
-RepliesToJob job loads s = (loads ≡ []) × Says 2 usage_text s
+RepliesToJob (jobs.Replay file input names budget) = RepliesToReplay (record { file = file; input = input; names = names; budget = budget })
+RepliesToJob (jobs.Gen n) = Ends (Says 0 (program_text n))
+RepliesToJob job = Ends (Says 2 usage_text)
 
 abbrev pub Replies : Option Job → List Load → Said → Type 0
-Replies None loads s = (loads ≡ []) × Says 2 usage_text s
-Replies (Some job) loads s = RepliesToJob job loads s
+Replies None = Ends (Says 2 usage_text)
+Replies (Some job) = RepliesToJob job

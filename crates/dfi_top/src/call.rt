@@ -1,9 +1,8 @@
-ghost use Rattle.std.specs.Prelude.{◌≡◌, ◌<◌, map, string_bytes};
+ghost use Rattle.std.specs.Prelude.{◌<◌, map, string_bytes};
 ghost use Rattle.dfi_words.specs.Reads.{Reads};
-ghost use Rattle.dfi_top.specs.Course.{MayLoad};
 ghost use Rattle.dfi_top.specs.Reply.{RepliesToJob, said_by};
-ghost use Rattle.dfi_top.specs.tools.Stages.{Goes};
-ghost use Rattle.dfi_top.specs.TopCall.{HandsOver, RepliesToWords, TopCall};
+ghost use Rattle.dfi_top.specs.tools.Stages.{Goes, RepliesToWords};
+ghost use Rattle.dfi_top.specs.TopCall.{HandsOver, TopCall};
 
 use crate::refusals::{refuse_words, write_program};
 use crate::reply::Reply;
@@ -35,7 +34,7 @@ fn reply_to_job<L: Library>(
     lib: &mut L,
 ) -> Result<Reply, Memory>
     requires { Reads (map string_bytes words.now) job }
-    ensures { Goes said_by L.told L.faults L.took (RepliesToJob job) (MayLoad job) lib.old lib.new result }
+    ensures { Goes said_by L.tells (RepliesToJob job) lib.old lib.new result }
 {
     match job {
         Job::Replay {
@@ -59,7 +58,7 @@ fn reply_to_job<L: Library>(
 
 // What is said to these words.
 fn reply_to_words<L: Library>(alloc: Global, words: &[String], lib: &mut L) -> Result<Reply, Memory>
-    ensures { RepliesToWords said_by L.told L.faults L.took (map string_bytes words.now) lib.old lib.new result }
+    ensures { RepliesToWords said_by L.tells (map string_bytes words.now) lib.old lib.new result }
 {
     match read_words(alloc, words) {
         Ok(job) => reply_to_job(alloc, words, job, lib),
@@ -70,10 +69,8 @@ fn reply_to_words<L: Library>(alloc: Global, words: &[String], lib: &mut L) -> R
 
 // Writes the text of a reply.
 fn hand_over<K: Sink>(out: &mut K, reply: Reply) -> Ended
-    ensures hands { HandsOver K.told K.faults reply.text.items reply.status
-        out.old out.new result.status }
+    ensures hands { HandsOver K.tells (said_by reply) out.old out.new result.status result.journal }
     ensures below { result.status < 8 }
-    ensures journal { result.journal ≡ reply.journal }
 {
     let status = match out.write(&reply.text) {
         Ok(()) => reply.status,
@@ -95,7 +92,7 @@ pub fn front<L: Library, K: Sink>(
     lib: &mut L,
     out: &mut K,
 ) -> Ended
-    ensures { TopCall L.told L.faults L.took K.told K.faults (map string_bytes words.now)
+    ensures { TopCall L.tells K.tells (map string_bytes words.now)
         lib.old lib.new out.old out.new result.status result.journal }
 {
     match reply_to_words(alloc, words, lib) {

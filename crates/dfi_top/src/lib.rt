@@ -3,6 +3,7 @@
 #![tactic(auto)]
 
 mod call;
+mod law;
 mod refusals;
 mod reply;
 mod runs;
@@ -10,3 +11,4 @@ mod saying;
 mod stages;
 
 pub use call::{Ended, front};
+pub use law::told_calls;

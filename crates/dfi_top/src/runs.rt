@@ -1,10 +1,11 @@
 //! Runs of a module.
 
-ghost use Rattle.std.specs.Prelude.{◌≡◌, ◌<◌, ◌≤◌, ◌^◌, ℕ, List, Ok, length, IfOk};
+ghost use Rattle.std.specs.Prelude.{◌≡◌, ◌<◌, ◌≤◌, ◌^◌, length, IfOk};
 ghost use Rattle.tac_ir.specs.Lawful.{Lawful};
 ghost use Rattle.word_table.specs.Tables.{CanRun};
 ghost use Rattle.dfi_top.specs.Checked.{AllChecked};
-ghost use Rattle.dfi_top.specs.Reply.{list_limit, NamesGave, RepliesToTurns, RunsByLeast, said_by, status_of, TellsRun};
+ghost use Rattle.dfi_base.specs.Limits.{list_limit};
+ghost use Rattle.dfi_top.specs.Reply.{RepliesToNames, RepliesToTurns, RunsByLeast, said_by, status_of, TellsRun};
 
 use crate::refusals::{refuse_name_bytes, refuse_names};
 use crate::reply::Reply;
@@ -91,7 +92,7 @@ pub fn run_along_bytes(
     requires checked { AllChecked m.now }
     requires few { length input.now < 2 ^ 31 }
     requires short { length bytes.now ≤ list_limit }
-    ensures { (name : List ℕ) → IfOk result (λ r. NamesGave m.now input.now budget name (Ok bytes.now) (said_by r)) }
+    ensures { IfOk result (λ r. RepliesToNames m.now input.now budget bytes.now (said_by r)) }
 {
     match read_names(alloc, bytes) {
         Ok(names) => run_along(alloc, m, input, budget, names),

@@ -7,6 +7,6 @@ mod Ends
 mod Reading
 mod Found
 mod Parses
-mod Unique
+pub mod Unique
 mod Jobs
 mod Runs

@@ -1,6 +1,7 @@
 -- What a command line asks for.
 use Rattle.std.specs.Prelude.{◌≡◌, ◌≢◌, ℕ, List, [], ◌∷◌, codes, Option, option_to_list, Result}
 use Rattle.std.specs.List.{AllByRecursion as Each}
+use Rattle.dfi_base.specs.Limits.{budget_limit, default_budget, worker_limit, default_workers, stripe_limit, default_stripes}
 use Rattle.dfi_words.specs.Number.{Range, up_to, IsNumberIn}
 use Rattle.dfi_words.specs.Options.{AreOptionsOf, GivesNumber, Setting, value_of}
 use Rattle.dfi_words.specs.Split.{Text, Options, Split}
@@ -11,13 +12,13 @@ use Rattle.dfi_words.specs.Answers.{AnswersTo}
 
 -- how many entries a run may make, how many threads run it, how many locks share its memory
 abbrev pub budget : Setting
-budget = record { range = up_to 4000000; default = 1000000 }
+budget = record { range = up_to budget_limit; default = default_budget }
 
 abbrev pub workers : Setting
-workers = record { range = up_to 64; default = 4 }
+workers = record { range = up_to worker_limit; default = default_workers }
 
 abbrev pub stripes : Setting
-stripes = record { range = up_to 64; default = 16 }
+stripes = record { range = up_to stripe_limit; default = default_stripes }
 
 -- the numbers of the generated sources
 abbrev pub sources : Range

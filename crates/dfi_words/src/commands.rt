@@ -13,6 +13,9 @@ use crate::line::{plain_line, plain_words, replay_line, run_line};
 use crate::number::number_up_to;
 use clap::ArgMatches;
 use dfi_base::Text;
+use dfi_base::limits::{
+    BUDGET_LIMIT, DEFAULT_BUDGET, DEFAULT_STRIPES, DEFAULT_WORKERS, STRIPE_LIMIT, WORKER_LIMIT,
+};
 use std::alloc::Global;
 
 /// The most that the number of a generated source may be.
@@ -70,7 +73,7 @@ fn setting(line: &ArgMatches<'_>, name: &str, most: u32, default: u32) -> Result
 fn budget(line: &ArgMatches<'_>) -> Result<u32, WordFault>
     ensures { AnswersTo (GivesNumber budget (first_of (codes "budget") (rows_of (found_of line.now)))) result }
 {
-    setting(line, "budget", 4_000_000, 1_000_000)
+    setting(line, "budget", BUDGET_LIMIT, DEFAULT_BUDGET)
 }
 
 /// How a run on threads is made.
@@ -78,8 +81,8 @@ fn run_settings(line: &ArgMatches<'_>) -> Result<Settings, WordFault>
     ensures { AnswersTo (λ s. IsRun (λ name. first_of name (rows_of (found_of line.now))) s.workers s.stripes s.budget) result }
 {
     Ok(Settings {
-        workers: setting(line, "workers", 64, 4)?,
-        stripes: setting(line, "stripes", 64, 16)?,
+        workers: setting(line, "workers", WORKER_LIMIT, DEFAULT_WORKERS)?,
+        stripes: setting(line, "stripes", STRIPE_LIMIT, DEFAULT_STRIPES)?,
         budget: budget(line)?,
     })
 }

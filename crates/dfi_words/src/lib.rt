@@ -13,9 +13,6 @@ use crate::commands::{one_file, one_number, replay, run, trial};
 pub use job::{Job, WordFault};
 use std::alloc::Global;
 
-#[cfg(test)]
-mod tests;
-
 /// What the words after the program's name ask for.
 pub fn read_words(alloc: Global, words: &[String]) -> Result<Job, WordFault>
     ensures { Answers (map string_bytes words.now) result }

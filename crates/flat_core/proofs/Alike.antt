@@ -5,19 +5,12 @@ use Rattle.std.proofs.lemmas.Bool.{cases_lt}
 use Rattle.std.proofs.lemmas.List.{map-append, length-map, length-append, length-reverse, length-take-le, append_assoc, reverse-append, reverse-reverse}
 use Rattle.std.proofs.lemmas.Option.{slice_get_within}
 use Rattle.dfi_base.specs.declared.numbers.Name.{Name}
-use Rattle.dfi_base.specs.Lives.{own, IsRunnable}
+use Rattle.dfi_base.specs.Lives.{IsRunnable}
 use Rattle.tac_ir.specs.declared.run.Entry.{Entry}
-use Rattle.tac_ir.specs.declared.run.End.{End}
 use Rattle.tac_ir.specs.Module.{Module}
-use Rattle.tac_ir.specs.Words.{int_of}
-use Rattle.tac_ir.specs.Layout.{instr_at}
-use Rattle.tac_ir.specs.Effect.{is_last}
-use Rattle.tac_ir.specs.Path.{Step, Start, next_spot, temp_of, IsPath}
 use Rattle.tac_ir.specs.Threads.{threads_of}
-use Rattle.tac_ir.specs.CoreRun.{returned, Follows, IsHistory, Returns, IsEnd}
-use Rattle.tac_ir.proofs.Unique.{unique}
-use Rattle.tac_ir.proofs.Living.{begins_one}
-use Rattle.tac_ir.proofs.OneRun.{follows_one}
+use Rattle.tac_ir.specs.CoreRun.{Follows, IsHistory, IsEnd}
+use Rattle.tac_ir.proofs.OneRun.{follows_one, end_one}
 use Rattle.flat_core.specs.Runs.{names_of, IsRefused, IsRefusedAt}
 use Rattle.flat_core.specs.Laws.{OneEntryFollows, OneRunAlong, OneRefusal, NoRunWhereRefused}
 
@@ -140,26 +133,6 @@ one_refusal m input budget names k l a b = ⊎_elim
     (λ (below : k < l). absurd (no_later m input budget names k l a b below))
     (λ (high : l ≤ k). ⊎_elim (λ (above : l < k). absurd (no_later m input budget names l k b a above)) (λ (low : k ≤ l). omega (arith, high, low)) (cases_lt l k))
     (cases_lt k l)
-
--- Ends.
-
--- the value that main returns behind these steps
-abbrev value_behind : Module → Start → List Step → ℤ
-value_behind m s steps = (let spot = next_spot m.code s steps in int_of (temp_of m.code s steps spot.act (returned (instr_at m.code spot.point))))
-
-returns_one : (m : Module) (h : List Entry) (v w : ℤ) → Returns m h v → Returns m h w → v ≡ w
-returns_one m h v w a b =
-    let starts = begins_one m h 1 a.start b.start a.begins b.begins in
-    let path = subst (λ s. IsPath m.code s a.steps (own (threads_of m) 1 h)) starts a.path in
-    let last = subst (λ s. is_last (instr_at m.code (next_spot m.code s a.steps).point) ≡ true) starts a.last in
-    let steps = unique m.code b.start a.steps b.steps (own (threads_of m) 1 h) (inl last) (inl b.last) path b.path in
-    a.value ∙ ap (λ s. value_behind m s a.steps) starts ∙ ap (value_behind m b.start) steps ∙ sym b.value
-
-end_one : (m : Module) (budget : ℕ) (h : List Entry) (a b : End) → IsEnd m budget h a → IsEnd m budget h b → a ≡ b
-end_one m budget h (End.Done v) (End.Done w) x y = ap End.Done (returns_one m h v w x y)
-end_one m budget h (End.Done v) b x y = absurd (y.0 x.ended)
-end_one m budget h a (End.Done w) x y = absurd (x.0 y.ended)
-end_one m budget h a b x y = x.1 ∙ sym y.1
 
 pub one_run : OneRunAlong
 one_run m input budget names j k a b =

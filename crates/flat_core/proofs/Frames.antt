@@ -190,12 +190,12 @@ roomy Size.Large = omega arith
 not_less : (a b : ℕ) → b ≤ a → nat_lt a b ≡ false
 not_less a b h = grind (arith, nat_lt)
 
-pub main_fits : (c : Code) (size : Size) (p : ℕ × ℕ) → GoodForm c → p ≡ (stack_from size, memory_words size) → with_frame (frame_words c c.main) (record { base = p.0; top = p.0; «end» = p.1 }) ≡ None → ⊥
+pub main_fits : (c : Code) (size : Size) (p : ℕ × ℕ) → GoodForm c → (p.0 ≡ stack_from size) × (p.1 ≡ memory_words size) → with_frame (frame_words c c.main) (record { base = p.0; top = p.0; «end» = p.1 }) ≡ None → ⊥
 main_fits c size p good is none =
     let nobody : Fun = record { params = 0; vars = []; code = []; line = 0 } in
     let words = (good.funs.frames c.main (get_or c.funs c.main nobody) (slice_get-get_or c.funs c.main nobody good.funs.main)).words in
-    let from = ap (λ q. q.0) is in
-    let past = ap (λ q. q.1) is in
+    let from = is.0 in
+    let past = is.1 in
     let fits : nat_lt (p.1 - p.0) (frame_words c c.main) ≡ false = not_less _ _ (omega (arith, words, roomy size, from, past)) in
     let made = ap (λ b. if b then None else Some (let s : FlatStack = record { base = p.0; top = p.0 + frame_words c c.main; «end» = p.1 } in s)) fits in
     let clash : None ≡ Some (let s : FlatStack = record { base = p.0; top = p.0 + frame_words c c.main; «end» = p.1 } in s) = sym none ∙ made in

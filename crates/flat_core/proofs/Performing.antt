@@ -20,13 +20,14 @@ use Rattle.path_law.specs.InPlace.{FlatLives}
 use Rattle.path_law.specs.Alive.{AreAlive}
 use Rattle.path_law.proofs.Grown.{tree_fed}
 use Rattle.flat_core.specs.declared.ask.Asked.{Asked}
-use Rattle.flat_core.specs.tools.Asked.{asked_of, reply_to, entry_of}
+use Rattle.flat_core.specs.Told.{reply_to, is_told, takes_no_stack}
+use Rattle.flat_core.specs.tools.Asked.{asked_of, entry_of}
 use Rattle.flat_core.proofs.Asking.{IsAskedBy, asked_by}
 use Rattle.flat_core.specs.declared.store.Store.{Store}
 use Rattle.flat_core.specs.Serves.{FlatThreads, Serves, Asks, IsPerformed}
 use Rattle.flat_core.specs.Store.{IsStore}
 use Rattle.word_table.specs.Tables.{CanRun}
-use Rattle.flat_core.proofs.Telling.{is_told, takes_no_stack, told_of, telling, replied_goes}
+use Rattle.flat_core.proofs.Telling.{told_of, telling, replied_goes}
 
 -- the tree may be fed
 pub takes : (c : Code) (f : FlatLives) (n : ℕ) (a : Asked) (reply : ReplyOf ℕ FlatStack) → (by : IsAskedBy c (running (f n)) a) → IsReplyTo flat_meaning c by.want reply → ((k : ℕ) → a.op ≡ Op.Fork k → ⊥) → Takes flat_meaning c f n reply

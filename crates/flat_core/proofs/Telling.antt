@@ -18,22 +18,8 @@ use Rattle.tac_thread.specs.declared.want.ReplyOf.{ReplyOf}
 use Rattle.tac_thread.specs.Answered.{IsReplyTo}
 use Rattle.tac_thread.specs.Flat.{flat_meaning}
 use Rattle.path_law.specs.Asked.{op_of, Tells}
-use Rattle.flat_core.specs.tools.Asked.{reply_to}
+use Rattle.flat_core.specs.Told.{reply_to, is_told, takes_no_stack}
 use Rattle.flat_core.specs.Store.{is_plain}
-
--- which answers an event has that goes on
-abbrev pub is_told : Op → Answer → Bool
-is_told (Op.Read r w) (Answer.Value v) = true
-is_told (Op.Write d w x) Answer.Unit = true
-is_told (Op.Same a b ne) (Answer.Value v) = true
-is_told (Op.New site count) (Answer.Value v) = true
-is_told (Op.Free w) Answer.Unit = true
-is_told Op.In (Answer.Value v) = true
-is_told Op.Left (Answer.Value v) = true
-is_told (Op.Out v) Answer.Unit = true
-is_told Op.Ret Answer.Unit = true
-is_told Op.Turn Answer.Unit = true
-is_told op answer = false
 
 by_two : (r : ReadNo) (w v : ℕ) (a b : Bool) (s t : Stop) (answer : Answer) → answer ≡ (if a then Answer.Stop s else (if b then Answer.Stop t else Answer.Value v)) → stops answer ≡ false → is_told (Op.Read r w) answer ≡ true
 by_two r w v true b s t answer is goes = let clash : true ≡ false = ap stops (sym is) ∙ goes in cc
@@ -55,11 +41,6 @@ block_told m h site (pos k) (Answer.Stop s) is goes = cc
 block_told m h site (pos k) Answer.Unit is goes = absurd is
 
 -- an event that takes no stack has such an answer
-abbrev pub takes_no_stack : Op → Bool
-takes_no_stack (Op.Call f) = false
-takes_no_stack (Op.Fork branches) = false
-takes_no_stack op = true
-
 pub told_of : (m : Module) (input : List ℤ) (h : List Entry) (n room : ℕ) (op : Op) (answer : Answer) → takes_no_stack op ≡ true → IsAnswer m input h n room op answer → stops answer ≡ false → is_told op answer ≡ true
 told_of m input h n room (Op.Read r w) answer other is goes =
     let last = last_write m.code h w in

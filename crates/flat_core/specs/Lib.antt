@@ -1,4 +1,5 @@
 pub mod Store
+pub mod Told
 pub mod Serves
 pub mod Stands
 pub mod Runs

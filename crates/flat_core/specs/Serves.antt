@@ -34,3 +34,7 @@ Asks m t n a = asked_of m.code (running (life_in t n)) ≡ Some a
 pub record IsPerformed (m : Module) (input : List ℤ) (h : List Entry) (n : ℕ) (a : Asked) (answer : Answer) (t : FlatThreads) (s : Store) : Type 0 where
   pub answers : IsAnswer m input h n (room_in a.stack) a.op answer
   pub goes_on : stops answer ≡ false → Serves m input (entry_of n a answer ∷ h) t s
+
+-- whatever run they serve, this is its answer to what thread n asked for, and these are the parts behind it
+abbrev pub Performs : Module → FlatThreads → Store → ℕ → Asked → Answer → FlatThreads → Store → Type 0
+Performs m t s n a answer u r = (input : List ℤ) (h : List Entry) → Serves m input h t s → IsPerformed m input h n a answer u r

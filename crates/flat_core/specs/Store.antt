@@ -1,11 +1,10 @@
 -- What threads share, beside the history of a run.
-use Rattle.std.specs.Prelude.{◌≡◌, ℕ, Bool, true, false, Option, Some, None, List, ◌∷◌, ℤ, slice_index, slice_get}
-use Rattle.tac_ir.specs.declared.code.Site.{Site}
+use Rattle.std.specs.Prelude.{ℕ, Bool, true, false, List, ◌∷◌, ℤ}
 use Rattle.tac_ir.specs.declared.run.Op.{Op}
 use Rattle.tac_ir.specs.declared.run.Entry.{Entry}
 use Rattle.tac_ir.specs.Module.{Module}
-use Rattle.tac_ir.specs.Layout.{shape_words}
 use Rattle.tac_ir.specs.Answers.{IsAnswer}
+use Rattle.code_layout.specs.LayoutOf.{IsLayoutOf}
 use Rattle.heap_desk.specs.Stands.{StandsAfter}
 use Rattle.word_table.specs.Holds.{HoldsAfter}
 use Rattle.flat_core.specs.declared.store.Store.{Store}
@@ -14,15 +13,7 @@ use Rattle.flat_core.specs.declared.store.Store.{Store}
 pub record IsStore (m : Module) (input : List ℤ) (h : List Entry) (s : Store) : Type 0 where
   pub words : HoldsAfter m h s.words
   pub desk : StandsAfter m input h s.desk
-  pub sizes : (shape : ℕ) → slice_index s.sizes shape ≡ shape_words m.code shape
-
--- the words of an item of a site, by the words of each shape
-abbrev pub size_in : List ℕ → Option Site → ℕ
-size_in sizes None = 0
-size_in sizes (Some s) = slice_index sizes s.shape
-
-abbrev pub item_size : List ℕ → Module → ℕ → ℕ
-item_size sizes m site = size_in sizes (slice_get m.code.sites site)
+  pub layout : IsLayoutOf m.code s.layout
 
 -- an event that takes no stack and no block
 abbrev pub is_plain : Op → Bool

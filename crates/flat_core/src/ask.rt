@@ -1,6 +1,6 @@
 ghost use Rattle.std.specs.Prelude.{◌≡◌};
 ghost use Rattle.path_law.specs.Asked.{op_of};
-ghost use Rattle.flat_core.specs.tools.Asked.{reply_to};
+ghost use Rattle.flat_core.specs.Told.{reply_to};
 
 use dfi_base::Point;
 use tac_ir::{Answer, Op};

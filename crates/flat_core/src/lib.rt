@@ -11,7 +11,10 @@ mod stacks;
 mod steps;
 mod store;
 
+pub use ask::{op_of, reply_to};
 pub use drive::{Turns, run};
 pub use fault::{RunFault, StepFault};
 pub use law::one_run_along;
+pub use machine::root_stack;
+pub use stacks::shares;
 pub use steps::Core;

@@ -1,25 +1,24 @@
-ghost use Rattle.std.specs.Prelude.{◌≡◌, ◌<◌, ◌^◌, ℕ, ℤ, List, [], ◌∷◌, Some, true, IfOk, OnErr, option_map, length};
-ghost use Rattle.tac_ir.specs.declared.run.Entry.{Entry};
+ghost use Rattle.std.specs.Prelude.{◌≡◌, ◌<◌, ◌^◌, [], true, IfOk, OnErr, length};
 ghost use Rattle.tac_ir.specs.declared.run.Op.{Op};
-ghost use Rattle.tac_ir.specs.declared.run.Answer.{Answer};
 ghost use Rattle.tac_ir.specs.GoodForm.{GoodForm};
 ghost use Rattle.tac_thread.specs.Threads.{life_in, running, IsTree, IsSame};
 ghost use Rattle.tac_thread.specs.Flat.{flat_meaning};
-ghost use Rattle.tac_ir.specs.Layout.{stack_from, memory_words};
 ghost use Rattle.path_law.specs.Begins.{root_stack};
+ghost use Rattle.code_layout.specs.LayoutOf.{IsLayoutOf};
 ghost use Rattle.word_table.specs.Tables.{CanRun};
 ghost use Rattle.flat_core.specs.tools.Asked.{asked_of};
-ghost use Rattle.flat_core.specs.Serves.{Serves, IsServing, Asks, IsPerformed};
+ghost use Rattle.flat_core.specs.Serves.{Serves, IsServing, Asks, Performs};
 ghost use Rattle.flat_core.specs.Store.{is_plain};
 
 use crate::ask::{Asked, op_of, reply_to};
-use crate::stacks::{is_deep, shares};
+use crate::stacks::shares;
 use crate::store::Store;
+use code_layout::{Layout, memory_words, stack_from};
 use dfi_base::{Memory, Name};
 use obj_mem::Maker;
 use std::alloc::Global;
-use tac_ir::{Answer, Module, Op, Size, Stop};
-use tac_thread::{Domain, FlatStack, FlatWords, Reply, Tree};
+use tac_ir::{Answer, Module, Op, Stop};
+use tac_thread::{Domain, FlatStack, FlatWords, Reply, Tree, is_deep};
 
 /// The threads of a run, and what they share.
 #[derive(Drop)]
@@ -37,21 +36,25 @@ impl Machine {
         ensures { IfOk result (λ machine. Serves m.now input.now [] machine.tree machine.store) }
     {
         let store = Store::new(alloc, m, input)?;
-        let tree = Tree::new(alloc, &m.code, root_stack(m))?;
+        let stack = root_stack(m, &store.layout);
+        let tree = Tree::new(alloc, &m.code, &store.layout, stack)?;
         Ok(Machine { alloc, tree, store })
     }
 
     /// The next event of a runnable thread.
     pub fn asked(&self, m: &Module, name: Name) -> Option<Asked>
         requires form { GoodForm m.now.code }
+        requires laid { IsLayoutOf m.now.code self.now.store.layout }
         requires tree { IsTree flat_meaning m.now.code (life_in self.now.tree) }
         ensures { result ≡ asked_of m.now.code (running (life_in self.now.tree name.0)) }
     {
-        let want = self.tree.next(&m.code, name)?;
-        let op = op_of(want)?;
-        let point = self.tree.at(name)?;
-        let stack = self.tree.stack(name)?;
-        Some(Asked { point, op, stack })
+        let guest = self.tree.running(name)?;
+        let op = op_of(guest.want(&m.code, &self.store.layout))?;
+        Some(Asked {
+            point: guest.at(),
+            op,
+            stack: guest.stack(),
+        })
     }
 
     /// Answers the next event of a thread, and does it.
@@ -59,8 +62,7 @@ impl Machine {
         requires can_run { CanRun m.now }
         requires serves { IsServing m.now self.old.tree self.old.store }
         requires asks { Asks m.now self.old.tree name.0 asked }
-        ensures ok { IfOk result (λ answer. (input : List ℤ) (h : List Entry) → Serves m.now input h self.old.tree self.old.store
-            → IsPerformed m.now input h name.0 asked answer self.new.tree self.new.store) }
+        ensures ok { IfOk result (λ answer. Performs m.now self.old.tree self.old.store name.0 asked answer self.new.tree self.new.store) }
         ensures err { OnErr result (IsSame self.old.tree self.new.tree × (self.new.store ≡ self.old.store)) }
     {
         match asked.op {
@@ -77,13 +79,12 @@ impl Machine {
         requires serves { IsServing m.now self.old.tree self.old.store }
         requires asks { Asks m.now self.old.tree name.0 asked }
         requires plain { is_plain asked.op ≡ true }
-        ensures ok { IfOk result (λ answer. (input : List ℤ) (h : List Entry) → Serves m.now input h self.old.tree self.old.store
-            → IsPerformed m.now input h name.0 asked answer self.new.tree self.new.store) }
+        ensures ok { IfOk result (λ answer. Performs m.now self.old.tree self.old.store name.0 asked answer self.new.tree self.new.store) }
         ensures err { OnErr result (IsSame self.old.tree self.new.tree × (self.new.store ≡ self.old.store)) }
     {
         let answer = self.store.answer(m, asked.op);
         if let Some(reply) = reply_to(answer) {
-            self.tree.feed(&m.code, name, reply)?;
+            self.tree.feed(&m.code, &self.store.layout, name, reply)?;
             self.store.keep(m, asked.op);
         }
         Ok(answer)
@@ -102,13 +103,12 @@ impl Machine {
         requires serves { IsServing m.now self.old.tree self.old.store }
         requires asks { Asks m.now self.old.tree name.0 asked }
         requires op { asked.op ≡ Op.New site count }
-        ensures ok { IfOk result (λ answer. (input : List ℤ) (h : List Entry) → Serves m.now input h self.old.tree self.old.store
-            → IsPerformed m.now input h name.0 asked answer self.new.tree self.new.store) }
+        ensures ok { IfOk result (λ answer. Performs m.now self.old.tree self.old.store name.0 asked answer self.new.tree self.new.store) }
         ensures err { OnErr result (IsSame self.old.tree self.new.tree × (self.new.store ≡ self.old.store)) }
     {
         let answer = self.store.take(m, site, count)?;
         if let Some(reply) = reply_to(answer) {
-            if let Err(fault) = self.tree.feed(&m.code, name, reply) {
+            if let Err(fault) = self.tree.feed(&m.code, &self.store.layout, name, reply) {
                 self.store.untake(answer);
                 return Err(fault);
             }
@@ -122,19 +122,18 @@ impl Machine {
         requires serves { IsServing m.now self.old.tree self.old.store }
         requires asks { Asks m.now self.old.tree name.0 asked }
         requires op { asked.op ≡ Op.Call fun }
-        ensures ok { IfOk result (λ answer. (input : List ℤ) (h : List Entry) → Serves m.now input h self.old.tree self.old.store
-            → IsPerformed m.now input h name.0 asked answer self.new.tree self.new.store) }
+        ensures ok { IfOk result (λ answer. Performs m.now self.old.tree self.old.store name.0 asked answer self.new.tree self.new.store) }
         ensures err { OnErr result (IsSame self.old.tree self.new.tree × (self.new.store ≡ self.old.store)) }
     {
         let maker = Maker {
             thread: name,
             count: 0,
         };
-        match FlatWords::enter(&m.code, &asked.stack, fun, maker) {
+        match FlatWords::enter(&m.code, &self.store.layout, &asked.stack, fun, maker) {
             None => Ok(Answer::Stop(Stop::Stack)),
             Some(stack) => {
-                self.tree
-                    .feed(&m.code, name, Reply::<FlatWords>::Stack(stack))?;
+                let reply = Reply::<FlatWords>::Stack(stack);
+                self.tree.feed(&m.code, &self.store.layout, name, reply)?;
                 Ok(Answer::Unit)
             }
         }
@@ -152,8 +151,7 @@ impl Machine {
         requires serves { IsServing m.now self.old.tree self.old.store }
         requires asks { Asks m.now self.old.tree name.0 asked }
         requires op { asked.op ≡ Op.Fork branches }
-        ensures ok { IfOk result (λ answer. (input : List ℤ) (h : List Entry) → Serves m.now input h self.old.tree self.old.store
-            → IsPerformed m.now input h name.0 asked answer self.new.tree self.new.store) }
+        ensures ok { IfOk result (λ answer. Performs m.now self.old.tree self.old.store name.0 asked answer self.new.tree self.new.store) }
         ensures err { OnErr result (IsSame self.old.tree self.new.tree × (self.new.store ≡ self.old.store)) }
     {
         if is_deep(name) {
@@ -162,40 +160,31 @@ impl Machine {
         match shares(self.alloc, &asked.stack, branches)? {
             None => Ok(Answer::Stop(Stop::Share)),
             Some(stacks) => {
-                self.tree.fork(&m.code, name, &stacks)?;
+                self.tree.fork(&m.code, &self.store.layout, name, &stacks)?;
                 Ok(Answer::Unit)
             }
         }
     }
 }
 
-// The stack of thread 1: main's frame stands at the first of the stacks' words.
-fn root_stack(m: &Module) -> FlatStack
-    requires { GoodForm m.now.code }
+/// The stack of thread 1: main's frame stands at the first of the stacks' words.
+pub fn root_stack(m: &Module, l: &Layout) -> FlatStack
+    requires form { GoodForm m.now.code }
+    requires laid { IsLayoutOf m.now.code l.now }
     ensures { result ≡ root_stack m.now }
 {
-    let (base, end) = stacks_of(m.size);
+    let base = stack_from(m.size);
     let nothing = FlatStack {
         base,
         top: base,
-        end,
+        end: memory_words(m.size),
     };
     let maker = Maker {
         thread: Name(1),
         count: 0,
     };
-    match FlatWords::enter(&m.code, &nothing, m.code.main, maker) {
+    match FlatWords::enter(&m.code, l, &nothing, m.code.main, maker) {
         Some(stack) => stack,
         None => unreachable!(),
-    }
-}
-
-// The first word of the stacks, and the first word behind them.
-fn stacks_of(size: Size) -> (u32, u32)
-    ensures { result ≡ (stack_from size, memory_words size) }
-{
-    match size {
-        Size::Small => (32768, 65536),
-        Size::Large => (524288, 1048576),
     }
 }

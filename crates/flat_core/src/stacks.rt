@@ -1,22 +1,11 @@
-ghost use Rattle.std.specs.Prelude.{◌≡◌, ◌≤◌, ◌<◌, ◌^◌, ◌/◌, nat_le, length, true, IfOk, MatchOption};
-ghost use Rattle.tac_ir.specs.Answers.{depth_of};
+ghost use Rattle.std.specs.Prelude.{◌≡◌, ◌≤◌, ◌/◌, length, IfOk, MatchOption};
 ghost use Rattle.path_law.specs.Wants.{room_in};
 ghost use Rattle.path_law.specs.Alive.{AreShares};
 ghost use Rattle.tac_thread.specs.Flat.{with_share};
 
-use dfi_base::{Memory, Name};
+use dfi_base::Memory;
 use std::alloc::Global;
 use tac_thread::{Domain, FlatStack, FlatWords};
-
-// From this name on a thread is 14 deep.
-const DEEP: u64 = 1 << 56;
-
-/// Whether a thread is so deep that it may have no branches.
-pub fn is_deep(name: Name) -> bool
-    ensures { result ≡ nat_le 14 (depth_of name.0) }
-{
-    name.0 >= DEEP
-}
 
 /// The stacks of `n` branches, each with an equal share of what is left of a stack; none where a share has no word.
 pub fn shares(alloc: Global, stack: &FlatStack, n: u32) -> Result<Option<Vec<FlatStack>>, Memory>

@@ -1,4 +1,4 @@
-ghost use Rattle.std.specs.Prelude.{◌≡◌, ◌<◌, ◌^◌, ℕ, ℤ, List, [], ◌∷◌, Ok, IfOk, OnErr, length, slice_index, true};
+ghost use Rattle.std.specs.Prelude.{◌≡◌, ◌<◌, ◌^◌, ℕ, ℤ, List, [], ◌∷◌, Ok, IfOk, OnErr, length, true};
 ghost use Rattle.tac_ir.specs.declared.run.Entry.{Entry};
 ghost use Rattle.tac_ir.specs.declared.run.Op.{Op};
 ghost use Rattle.tac_ir.specs.declared.run.Answer.{Answer};
@@ -6,23 +6,24 @@ ghost use Rattle.tac_ir.specs.Answers.{IsAnswer, free_answer};
 ghost use Rattle.tac_ir.specs.Module.{Module};
 ghost use Rattle.heap_desk.specs.Replies.{after_give, first_of};
 ghost use Rattle.tac_ir.specs.Words.{word_of};
+ghost use Rattle.code_layout.specs.LayoutOf.{IsLayoutOf};
+ghost use Rattle.tac_ir.specs.Desk.{item_words};
 ghost use Rattle.word_table.specs.Tables.{CanRun};
-ghost use Rattle.flat_core.specs.Store.{IsStore, IsTaken, is_plain, item_size};
+ghost use Rattle.flat_core.specs.Store.{IsStore, IsTaken, is_plain};
 
-use code_layout::shape_sizes;
+use code_layout::Layout;
 use dfi_base::Memory;
 use heap_desk::{Desk, TakeFault};
-use sqlite_items::Items;
 use std::alloc::Global;
 use tac_ir::{Answer, Module, Op, Stop};
 use word_table::WordTable;
 
-/// What threads share: the words with their classes, the heap and the input. `sizes` has the words of each shape.
+/// What threads share: the words with their classes, the heap and the input, and the layout of the code.
 #[derive(Drop)]
 pub struct Store {
     pub words: WordTable,
     pub desk: Desk,
-    pub sizes: Items<u32>,
+    pub layout: Layout,
 }
 
 impl Store {
@@ -32,13 +33,13 @@ impl Store {
         requires few { length input.now < 2 ^ 31 }
         ensures { IfOk result (λ store. IsStore m.now input.now [] store) }
     {
-        let sizes = shape_sizes(alloc, &m.code)?;
+        let layout = Layout::of(alloc, &m.code)?;
         let words = WordTable::new(alloc, m)?;
         let desk = Desk::new(alloc, input, m.size)?;
         Ok(Store {
             words,
             desk,
-            sizes: Items::from_vec(sizes),
+            layout,
         })
     }
 
@@ -100,7 +101,7 @@ impl Store {
         ensures answer { IfOk result (λ answer. (input : List ℤ) (h : List Entry) (e : Entry) → IsStore m.now input h self.old
             → e.op ≡ Op.New site count → e.answer ≡ answer → IsTaken m.now input h e self.new) }
         ensures undone { (at : ℕ) → result ≡ Ok (Answer.Value at) → after_give self.new.desk at ≡ self.old.desk }
-        ensures others { (self.new.words ≡ self.old.words) × (self.new.sizes ≡ self.old.sizes) }
+        ensures others { (self.new.words ≡ self.old.words) × (self.new.layout ≡ self.old.layout) }
         ensures err { OnErr result (self.new ≡ self.old) }
     {
         self.desk.heap_law();
@@ -115,7 +116,7 @@ impl Store {
     /// Gives a block back that was just taken.
     pub fn untake(&mut self, answer: Answer)
         ensures block { (at : ℕ) → answer ≡ Answer.Value at → self.new.desk ≡ after_give self.old.desk at }
-        ensures others { (self.new.words ≡ self.old.words) × (self.new.sizes ≡ self.old.sizes) }
+        ensures others { (self.new.words ≡ self.old.words) × (self.new.layout ≡ self.old.layout) }
     {
         if let Answer::Value(at) = answer {
             let _ = self.desk.give(at);
@@ -124,18 +125,11 @@ impl Store {
 
     // The words of an item of a site.
     fn item_words(&self, m: &Module, site: u16) -> u32
-        ensures { result ≡ item_size self.now.sizes m.now site }
+        ensures { IsLayoutOf m.now.code self.now.layout → result ≡ item_words m.now.code site }
     {
         match m.code.sites.get(site as usize) {
             None => 0,
-            Some(s) => size_at(self.sizes.as_slice(), s.shape),
+            Some(s) => self.layout.shape_words(s.shape),
         }
     }
-}
-
-// The words of a shape, and 0 where there is none.
-fn size_at(sizes: &[u32], shape: u32) -> u32
-    ensures { result ≡ slice_index sizes.now shape }
-{
-    sizes.get(shape as usize).copied().unwrap_or(0)
 }

@@ -12,10 +12,10 @@ use Rattle.tac_ir.specs.Module.{Module}
 use Rattle.tac_ir.specs.Layout.{heap_from, stack_from}
 use Rattle.tac_ir.specs.Desk.{Block, IsApart, IsFree, begins_block, without, room_for, blocks_after, live_blocks}
 use Rattle.tac_ir.specs.Answers.{IsAnswer, free_answer}
-use Rattle.tac_ir.specs.CoreRun.{IsHistory}
+use Rattle.tac_ir.specs.Served.{is_served, AreServed}
 use Rattle.heap_desk.specs.Heap.{AreApart, LiesBetween, AreInHeap, IsFreeWithout}
 use Rattle.heap_desk.specs.Desk.{Desk, with_block, room_for_items}
-use Rattle.heap_desk.specs.Laws.{AreAnswered, HistoryIsAnswered, BlocksStayApart, GivenBackIsFree, GivenBackIsTaken, GiveUndoesTake, changes_heap}
+use Rattle.heap_desk.specs.Laws.{BlocksStayApart, GivenBackIsFree, GivenBackIsTaken, GiveUndoesTake, changes_heap}
 use Rattle.heap_desk.proofs.Same.{all_without, begins_at, contains_cases}
 use Rattle.heap_desk.proofs.Order.{without_none}
 
@@ -49,27 +49,23 @@ heap_with from limit words at blocks some free heap =
       apart = (free.apart, heap.apart);
     }
 
-heap_after : (m : Module) (input : List ℤ) (h : List Entry) (n room : ℕ) (op : Op) (answer : Answer) → IsAnswer m input h n room op answer
+heap_after : (m : Module) (input : List ℤ) (h : List Entry) (op : Op) (answer : Answer)
+    → (is_served op ≡ true → (n room : ℕ) → IsAnswer m input h n room op answer)
     → AreInHeap heap_from (stack_from m.size) (live_blocks m.code h)
     → AreInHeap heap_from (stack_from m.size) (blocks_after m.code op answer (live_blocks m.code h))
-heap_after m input h n room (Op.New site (pos count)) (Answer.Value w) fit heap =
-    heap_with heap_from (stack_from m.size) (room_for m.code site count) w (live_blocks m.code h) (omega arith) fit.free heap
-heap_after m input h n room (Op.New site (negsuc k)) (Answer.Value w) no_room heap = absurd (cc)
-heap_after m input h n room (Op.Free w) Answer.Unit answer heap = heap_without heap_from (stack_from m.size) w (live_blocks m.code h) heap
-heap_after m input h n room op answer fit heap = heap
+heap_after m input h (Op.New site (pos count)) (Answer.Value w) fit heap =
+    heap_with heap_from (stack_from m.size) (room_for m.code site count) w (live_blocks m.code h) (omega arith) (fit refl 0 0).free heap
+heap_after m input h (Op.New site (negsuc k)) (Answer.Value w) fit heap = let no_room = fit refl 0 0 in absurd (cc)
+heap_after m input h (Op.Free w) Answer.Unit fit heap = heap_without heap_from (stack_from m.size) w (live_blocks m.code h) heap
+heap_after m input h op answer fit heap = heap
 
 -- Any history.
 
-pub history_is_answered : HistoryIsAnswered
-unfolding IsHistory AreAnswered
-history_is_answered m input [] history = tt
-history_is_answered m input (e ∷ h) history = ((e.name.0, history.0.want.room, history.0.answer), history_is_answered m input h history.1)
-
 pub stays_heap : BlocksStayApart
-unfolding AreAnswered live_blocks
+unfolding AreServed live_blocks
 stays_heap m input [] answered =
     record { inside = All-nil (LiesBetween heap_from (stack_from m.size)); some = All-nil (λ (b : Block). 0 < b.words); apart = tt }
-stays_heap m input (e ∷ h) answered = heap_after m input h answered.0.0 answered.0.1 e.op e.answer answered.0.2 (stays_heap m input h answered.1)
+stays_heap m input (e ∷ h) answered = heap_after m input h e.op e.answer answered.0 (stays_heap m input h answered.1)
 
 turned : (a b : Block) → IsApart a b → IsApart b a
 turned a b apart = elim apart [ inl before ↦ inr before | inr behind ↦ inl behind ]
@@ -99,7 +95,7 @@ pub free_again : GivenBackIsFree
 free_again m input h b answered there = free_without heap_from (stack_from m.size) (live_blocks m.code h) b (stays_heap m input h answered) there
 
 -- no live block begins where words are free
-none_there : (from limit words at : ℕ) (blocks : List Block) → 0 < words → IsFree blocks from limit words at → All (λ (b : Block). 0 < b.words) blocks
+pub none_there : (from limit words at : ℕ) (blocks : List Block) → 0 < words → IsFree blocks from limit words at → All (λ (b : Block). 0 < b.words) blocks
     → begins_block at blocks ≡ false
 none_there from limit words at [] some free all = refl
 none_there from limit words at (b ∷ blocks) some free all =
@@ -117,17 +113,17 @@ unfolding live_blocks
 live_with c h e op answer o a =
     ap (λ p. blocks_after c p e.answer (live_blocks c h)) o ∙ ap (λ x. blocks_after c op x (live_blocks c h)) a
 
--- what is known of an entry's answer, where its op is known
-known : (m : Module) (input : List ℤ) (h : List Entry) (n room : ℕ) (e : Entry) (op : Op) → IsAnswer m input h n room e.op e.answer → e.op ≡ op
-    → IsAnswer m input h n room op e.answer
-known m input h n room e op fit o = let P : Op → Type 0 = λ p. IsAnswer m input h n room p e.answer in subst P o fit
+-- what is known of an entry's answer, where its op is known and a memory answers it
+known : (m : Module) (input : List ℤ) (h : List Entry) (e : Entry) (op : Op) → (is_served e.op ≡ true → (n room : ℕ) → IsAnswer m input h n room e.op e.answer)
+    → e.op ≡ op → is_served op ≡ true → IsAnswer m input h 0 0 op e.answer
+known m input h e op fit o served = let P : Op → Type 0 = λ p. IsAnswer m input h 0 0 p e.answer in subst P o (fit (ap is_served o ∙ served) 0 0)
 
 -- giving back a live block leaves the others
-live_without : (m : Module) (input : List ℤ) (h : List Entry) (f : Entry) (b : Block) → AreAnswered m input (f ∷ h)
+live_without : (m : Module) (input : List ℤ) (h : List Entry) (f : Entry) (b : Block) → AreServed m input (f ∷ h)
     → Contains (live_blocks m.code h) b → f.op ≡ Op.Free b.at → live_blocks m.code (f ∷ h) ≡ without b.at (live_blocks m.code h)
-unfolding AreAnswered
+unfolding AreServed
 live_without m input h f b answered there back =
-    let given : f.answer ≡ free_answer m h b.at = known m input h answered.0.0 answered.0.1 f (Op.Free b.at) answered.0.2 back in
+    let given : f.answer ≡ free_answer m h b.at = known m input h f (Op.Free b.at) answered.0 back refl in
     let begins = begins_at b.at (live_blocks m.code h) b there refl in
     let unit : f.answer ≡ Answer.Unit = given ∙ granted (nat_eq b.at 0) (begins_block b.at (live_blocks m.code h)) begins in
     live_with m.code h f (Op.Free b.at) Answer.Unit back unit
@@ -151,8 +147,8 @@ live_later c (e ∷ later) h none =
     ∙ live_later c later h (All-tail (λ (x : Entry). changes_heap x.op ≡ false) e later none)
 
 -- the entries before some others are answered too
-answered_before : (m : Module) (input : List ℤ) (later h : List Entry) → AreAnswered m input (later ++ h) → AreAnswered m input h
-unfolding AreAnswered
+answered_before : (m : Module) (input : List ℤ) (later h : List Entry) → AreServed m input (later ++ h) → AreServed m input h
+unfolding AreServed
 answered_before m input [] h answered = answered
 answered_before m input (e ∷ later) h answered = answered_before m input later h answered.1
 
@@ -168,7 +164,7 @@ fewer blocks from limit words room at le free =
     }
 
 pub taken_again : GivenBackIsTaken
-unfolding AreAnswered
+unfolding AreServed
 taken_again m input h later f b site count n room answered there back none le =
     let here = answered_before m input later (f ∷ h) answered in
     let live = live_later m.code later (f ∷ h) none ∙ live_without m input h f b here there back in

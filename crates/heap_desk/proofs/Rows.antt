@@ -4,7 +4,6 @@ use Rattle.tac_ir.specs.declared.module.Size.{Size}
 use Rattle.tac_ir.specs.Layout.{heap_from, stack_from}
 use Rattle.tac_ir.specs.Desk.{Block, IsFree, IsFirstFit}
 use Rattle.heap_desk.specs.Desk.{Desk, room_for_items}
-use Rattle.heap_desk.specs.Gaps.{gap_at}
 use Rattle.heap_desk.specs.Replies.{after_take, after_give, after_next, can_give, first_of}
 use Rattle.heap_desk.proofs.FirstFit.{found, none_found}
 
@@ -43,18 +42,18 @@ no_items_take_a_word = refl
 -- the middle gap holds 10 words and no more
 gap_holds_10 : IsFirstFit two.blocks heap_from (stack_from two.size) 10 8202
 gap_holds_10 =
-    let gap = found 0 8192 32768 10 two.blocks (gap_at 1 8202 10) (lit< tt) (lit≤ tt, lit< tt, (lit≤ tt, lit< tt, lit≤ tt)) refl in gap.first
+    let place = found 8192 32768 10 two.blocks 8202 (lit< tt) (lit≤ tt, lit< tt, (lit≤ tt, lit< tt, lit≤ tt)) refl in place.first
 
 gap_holds_no_11 : IsFirstFit two.blocks heap_from (stack_from two.size) 11 8222
 gap_holds_no_11 =
-    let gap = found 0 8192 32768 11 two.blocks (gap_at 2 8222 11) (lit< tt) (lit≤ tt, lit< tt, (lit≤ tt, lit< tt, lit≤ tt)) refl in gap.first
+    let place = found 8192 32768 11 two.blocks 8222 (lit< tt) (lit≤ tt, lit< tt, (lit≤ tt, lit< tt, lit≤ tt)) refl in place.first
 
 -- a heap holds 24,576 words and no more
 heap_holds_all : IsFirstFit [] heap_from (stack_from Size.Small) 24576 8192
-heap_holds_all = let gap = found 0 8192 32768 24576 [] (gap_at 0 8192 24576) (lit< tt) (lit≤ tt) refl in gap.first
+heap_holds_all = let place = found 8192 32768 24576 [] 8192 (lit< tt) (lit≤ tt) refl in place.first
 
 heap_holds_no_more : (at : ℕ) → IsFree [] heap_from (stack_from Size.Small) 24577 at → ⊥
-heap_holds_no_more = none_found 0 8192 32768 24577 [] (lit< tt) (lit≤ tt) refl
+heap_holds_no_more = none_found 8192 32768 24577 [] (lit< tt) (lit≤ tt) refl
 
 large_heap_holds_all : IsFirstFit [] heap_from (stack_from Size.Large) 516096 8192
-large_heap_holds_all = let gap = found 0 8192 524288 516096 [] (gap_at 0 8192 516096) (lit< tt) (lit≤ tt) refl in gap.first
+large_heap_holds_all = let place = found 8192 524288 516096 [] 8192 (lit< tt) (lit≤ tt) refl in place.first

@@ -9,6 +9,7 @@ use Rattle.tac_ir.specs.Words.{word_of}
 use Rattle.tac_ir.specs.Layout.{heap_from, stack_from}
 use Rattle.tac_ir.specs.Desk.{Block, IsFree, item_words, room_for, live_blocks}
 use Rattle.tac_ir.specs.Answers.{IsAnswer}
+use Rattle.tac_ir.specs.Served.{AreServed}
 use Rattle.tac_ir.specs.CoreRun.{IsHistory}
 use Rattle.heap_desk.specs.declared.fault.TakeFault.{TakeFault}
 use Rattle.heap_desk.specs.Desk.{Desk}
@@ -18,22 +19,18 @@ use Rattle.heap_desk.specs.Stands.{StandsAfter}
 
 -- The heap.
 
--- each entry has the answer that the run gives after those before it; that of a block depends on no thread
-unfoldable pub AreAnswered : Module → List ℤ → List Entry → Type 0
-AreAnswered m input [] = Unit {0}
-AreAnswered m input (e ∷ h) = ((n : ℕ) × (room : ℕ) × IsAnswer m input h n room e.op e.answer) × AreAnswered m input h
-
-abbrev pub HistoryIsAnswered : Type 0
-HistoryIsAnswered = (m : Module) (input : List ℤ) (h : List Entry) → IsHistory m input h → AreAnswered m input h
+-- in every run the events that a memory answers have its answers
+abbrev pub HistoryIsServed : Type 0
+HistoryIsServed = (m : Module) (input : List ℤ) (h : List Entry) → IsHistory m input h → AreServed m input h
 
 -- the live blocks lie in the heap and do not overlap
 abbrev pub BlocksStayApart : Type 0
-BlocksStayApart = (m : Module) (input : List ℤ) (h : List Entry) → AreAnswered m input h
+BlocksStayApart = (m : Module) (input : List ℤ) (h : List Entry) → AreServed m input h
     → AreInHeap heap_from (stack_from m.size) (live_blocks m.code h)
 
 -- where a live block is given back, its words are free
 abbrev pub GivenBackIsFree : Type 0
-GivenBackIsFree = (m : Module) (input : List ℤ) (h : List Entry) (b : Block) → AreAnswered m input h → Contains (live_blocks m.code h) b
+GivenBackIsFree = (m : Module) (input : List ℤ) (h : List Entry) (b : Block) → AreServed m input h → Contains (live_blocks m.code h) b
     → IsFreeWithout heap_from (stack_from m.size) (live_blocks m.code h) b
 
 -- whether an event takes or gives back a block
@@ -46,7 +43,7 @@ changes_heap op = false
 -- and it stands at the same place where it would not stand lower
 abbrev pub GivenBackIsTaken : Type 0
 GivenBackIsTaken = (m : Module) (input : List ℤ) (h later : List Entry) (f : Entry) (b : Block) (site count n room : ℕ)
-    → AreAnswered m input (later ++ f ∷ h) → Contains (live_blocks m.code h) b → f.op ≡ Op.Free b.at
+    → AreServed m input (later ++ f ∷ h) → Contains (live_blocks m.code h) b → f.op ≡ Op.Free b.at
     → All (λ (e : Entry). changes_heap e.op ≡ false) later → room_for m.code site count ≤ b.words
     → (IsAnswer m input (later ++ f ∷ h) n room (Op.New site (pos count)) (Answer.Stop Stop.Heap) → ⊥)
     × (((lower : ℕ) → lower < b.at → IsFree (live_blocks m.code (later ++ f ∷ h)) heap_from (stack_from m.size) (room_for m.code site count) lower → ⊥)

@@ -1,8 +1,8 @@
 pub mod Desk
-pub mod Gaps
 pub mod Heap
 pub mod InOrder
 pub mod Laws
 pub mod Replies
 pub mod SameBlocks
 pub mod Stands
+pub mod tools

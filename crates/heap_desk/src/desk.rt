@@ -1,34 +1,35 @@
 ghost use Rattle.std.specs.Prelude.{◌≡◌, ◌<◌, ◌^◌, [], length, IfOk, OnErr, is_ok};
 
-use crate::block::Block;
 use crate::fault::{NotLive, TakeFault};
-use crate::gaps::{first_gap, heap_end, room_for};
-use crate::places::place_of;
+use crate::places::Places;
+use crate::room::room_for;
 use dfi_base::Memory;
+use dfi_base::memory_map::HEAP_FROM;
 use std::alloc::Global;
 use std::marker::Model;
 use tac_ir::Size;
 
-/// The live blocks of the heap in the order of their places, and how many numbers of the input were read.
+/// The live blocks of the heap by their places, and how many numbers of the input were read.
 #[derive(Drop)]
 pub struct Desk {
     size: Size,
-    blocks: Vec<Block>,
+    places: Places,
     input: Vec<i32>,
     read: usize,
 }
 
 impl Model for Desk {
     ghost use Rattle.std.specs.Prelude.{◌≤◌, ◌<◌, ◌^◌, length, drop};
-    ghost use Rattle.tac_ir.specs.Layout.{heap_from, stack_from};
+    ghost use Rattle.tac_ir.specs.Layout.{stack_from};
     ghost use Rattle.heap_desk.specs.Desk.{Desk};
-    ghost use Rattle.heap_desk.specs.InOrder.{IsInOrder};
+    ghost use Rattle.heap_desk.specs.tools.Indexed.{IsKept};
+    ghost use Rattle.heap_desk.specs.tools.Spans.{blocks_of};
 
     ghost Value = { Desk };
 
-    ghost view = { λ d. record { size = d.size; blocks = d.blocks.items; rest = drop d.read d.input.items } };
+    ghost view = { λ d. record { size = d.size; blocks = blocks_of d.places.ends.items; rest = drop d.read d.input.items } };
 
-    ghost invariant = { λ d. IsInOrder heap_from (stack_from d.size) d.blocks.items
+    ghost invariant = { λ d. IsKept (stack_from d.size) d.places
         × (d.read ≤ length d.input.items) × (length d.input.items < 2 ^ 31) };
 }
 
@@ -47,7 +48,7 @@ impl Desk {
     {
         Ok(Desk {
             size,
-            blocks: Vec::new(alloc),
+            places: Places::new(alloc, size)?,
             input: Vec::from_slice(alloc, input)?,
             read: 0,
         })
@@ -71,9 +72,9 @@ impl Desk {
         ensures nothing { word ≡ 0 → self.new ≡ self.old }
         ensures refused { OnErr result (self.new ≡ self.old) }
     {
-        match place_of(&self.blocks, heap_end(self.size), word) {
+        match self.places.index_of(word) {
             Some(index) => {
-                self.blocks.remove(index);
+                self.places.put(index, 0);
                 Ok(())
             }
             None if word == 0 => Ok(()),
@@ -85,7 +86,10 @@ impl Desk {
     pub fn can_give(&self, word: u32) -> bool
         ensures { result ≡ can_give self.now word }
     {
-        word == 0 || place_of(&self.blocks, heap_end(self.size), word).is_some()
+        if word == 0 {
+            return true;
+        }
+        self.places.index_of(word).is_some()
     }
 
     /// The number that `next_int` will give.
@@ -127,7 +131,7 @@ impl Desk {
         ensures free_again { All (IsFreeWithout heap_from (stack_from self.now.size) self.now.blocks) self.now.blocks }
         ensures undone { GiveUndoesTake self.now }
     {
-        let _ = &self.blocks;
+        let _ = &self.places;
     }
 
     fn take_room(&mut self, words: u64) -> Result<u32, TakeFault>
@@ -135,10 +139,11 @@ impl Desk {
         ensures answer { AnswersRoom self.old words result }
         ensures after { self.new ≡ after_room self.old words result }
     {
-        let Some(gap) = first_gap(&self.blocks, heap_end(self.size), words) else {
+        let Some(at) = self.places.first_fit(words) else {
             return Err(TakeFault::NoRoom);
         };
-        self.blocks.insert(gap.index, gap.block)?;
-        Ok(gap.block.at())
+        self.places
+            .put((at - HEAP_FROM) as usize, at + words as u32);
+        Ok(at)
     }
 }

@@ -1,6 +1,6 @@
 ghost use Rattle.heap_desk.specs.SameBlocks.{SameFirstFit, OneFirstFit, SameBegins, SameWith, SameWithout};
 ghost use Rattle.heap_desk.specs.Laws.{
-  HistoryIsAnswered,
+  HistoryIsServed,
   BlocksStayApart,
   GivenBackIsFree,
   GivenBackIsTaken,
@@ -16,7 +16,7 @@ ghost use Rattle.heap_desk.specs.Laws.{
 /// In every run the live blocks lie in the heap and do not overlap, and where a block was given back, one that is no larger
 /// can be taken at the same place.
 pub fn blocks_of_a_run()
-    ensures answered { HistoryIsAnswered }
+    ensures served { HistoryIsServed }
     ensures apart { BlocksStayApart }
     ensures free_again { GivenBackIsFree }
     ensures taken_again { GivenBackIsTaken }

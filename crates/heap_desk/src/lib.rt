@@ -1,14 +1,13 @@
 //! The desk: the live blocks of the heap, and how far the input was read.
 #![tactic(auto)]
 
-mod block;
 mod desk;
 mod fault;
-mod gaps;
 mod law;
 mod places;
-#[cfg(test)]
-mod tests;
+mod room;
+mod scan;
+mod span;
 
 pub use desk::Desk;
 pub use fault::{NotLive, TakeFault};

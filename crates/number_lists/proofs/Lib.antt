@@ -6,3 +6,4 @@ pub mod Whole
 pub mod Forms
 pub mod Turns
 pub mod Few
+pub mod OneAnswer

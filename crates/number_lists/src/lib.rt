@@ -2,11 +2,10 @@
 #![tactic(auto)]
 
 mod fault;
+mod law;
 mod lists;
 mod scan;
 
 pub use fault::ListFault;
+pub use law::one_answer;
 pub use lists::{read_input, read_names};
-
-#[cfg(test)]
-mod tests;

@@ -7,7 +7,7 @@ use Rattle.parse_law.proofs.Forms.{Form, Fits, Completes, Judge, Law}
 use Rattle.parse_law.proofs.Bind.{Seq, Leads, bind, bind_good}
 use Rattle.parse_law.proofs.Steps.{Any, fits_any, Token, accept_law, Map, map_law, false_true}
 use Rattle.parse_law.proofs.Carry.{fits_fewer}
-use Rattle.parse_law.proofs.Heads.{rise}
+use Rattle.parse_law.proofs.FirstTokens.{rise}
 use Rattle.parse_law.proofs.Repeat.{repeat_law, Takes, takes_first, takes_accept, takes_rising}
 
 some_true : {A : Type 0} (o : Option A) → is_some o ≡ true → (a : A) × (o ≡ Some a)

@@ -8,10 +8,10 @@ use Rattle.parse_law.specs.BracketSums.{Token, Number, Plus, Open, Close, Tree, 
 use Rattle.parse_law.proofs.Forms.{Form, Follow, Completes, Judge, Law}
 use Rattle.parse_law.proofs.Bind.{Seq}
 use Rattle.parse_law.proofs.Steps.{Any, Nothing, Pure, pure_law, Map, map_law, Before, before_law, convert, IsTestOf, some_is, none_some, false_true}
-use Rattle.parse_law.proofs.Heads.{taken, refused, wants, heads, Starts, not_started, not_empty, level_law}
+use Rattle.parse_law.proofs.FirstTokens.{taken, refused, wants, heads, Starts, not_started, not_empty, level_law}
 use Rattle.parse_law.proofs.Binary.{binary_law}
 use Rattle.parse_law.proofs.Verdicts.{All, Whole, whole_law, tells, continues_prefix}
-use Rattle.parse_law.proofs.One.{one_answer, Bounded, one_tree}
+use Rattle.parse_law.proofs.OneAnswer.{one_answer, Bounded, one_tree}
 
 -- ---- the parser
 

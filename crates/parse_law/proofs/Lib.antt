@@ -2,9 +2,9 @@ pub mod Forms
 pub mod Bind
 pub mod Carry
 pub mod Steps
-pub mod Heads
+pub mod FirstTokens
 pub mod Verdicts
-pub mod One
+pub mod OneAnswer
 pub mod Repeat
 pub mod Binary
 pub mod BracketSums

@@ -6,7 +6,7 @@ use Rattle.parse_law.proofs.Forms.{Form, Follow, Fits, Completes, Done, Judge, L
 use Rattle.parse_law.proofs.Bind.{Seq, Leads, bind_at, alike_self}
 use Rattle.parse_law.proofs.Steps.{nil_cons, head_is, false_true, convert, Map, map_law}
 use Rattle.parse_law.proofs.Carry.{fits_fewer}
-use Rattle.parse_law.proofs.Heads.{kept_at, stopped, done_fault}
+use Rattle.parse_law.proofs.FirstTokens.{kept_at, stopped, done_fault}
 
 -- ---- p takes a token where it is done
 

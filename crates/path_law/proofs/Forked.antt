@@ -2,7 +2,7 @@
 use Rattle.std.proofs.Common.{◌≡◌, ℕ, ◌+◌, ◌*◌, ◌/◌, ◌%◌, ◌≤◌, List, [], ◌∷◌, Bool, true, false, refl, Option, Some, None, arith, sym, ◌∙◌, ap, subst, ⊎_elim}
 use Rattle.std.proofs.lemmas.Bool.{cases_eq}
 use Rattle.dfi_base.specs.Lives.{own, Begins, branches_after, Ended}
-use Rattle.dfi_base.specs.Lives.Ended.{ended}
+use Rattle.dfi_base.specs.Lives.EndedIn.{ended}
 use Rattle.tac_ir.specs.declared.code.Code.{Code}
 use Rattle.tac_ir.specs.declared.run.Entry.{Entry}
 use Rattle.tac_ir.specs.Module.{Module}
@@ -142,7 +142,7 @@ ended_branch m h e k b s begins none stands gone = by (ended_of flat_meaning m.c
         let same : over.life ≡ b = cc in
         let want = subst (λ z. want_of flat_meaning m.code z ≡ Some (Want.Ended v)) same over.want in
         let last = ends m.code s (own (threads_of m) k (e ∷ h)) b v now want in
-        ended k s begins (last.steps, last.path, last.last)
+        ended k s begins (v, last)
         (λ i low high. absurd (let nobody : branches_after (threads_of m) (own (threads_of m) k (e ∷ h)) ≡ 0 = ap (λ o. branches_after (threads_of m) o) none in omega (arith, low, high, nobody)))
 
 gone_of : (m : Module) (h : List Entry) (f g : FlatLives) (e : Entry) (n count : ℕ) (life : FlatLife) → AreThreads m h f → (Ended (threads_of m) h n → ⊥) → HasForked m h f e n count life g

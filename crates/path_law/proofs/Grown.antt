@@ -1,7 +1,7 @@
 -- A tree that begins, and one whose thread takes an answer, are in place.
 use Rattle.std.proofs.Common.{◌≡◌, ℕ, ◌+◌, ◌*◌, ◌/◌, ◌≤◌, List, [], ◌∷◌, Bool, true, false, refl, Option, Some, None, arith, sym, ◌∙◌, ap, subst, ⊎_elim}
 use Rattle.std.proofs.lemmas.Bool.{cases_eq}
-use Rattle.dfi_base.specs.Lives.{own, Begins, branches_after, Ended}
+use Rattle.dfi_base.specs.Lives.{BeginsIn, own, Begins, branches_after, Ended}
 use Rattle.tac_ir.specs.declared.run.Op.{Op}
 use Rattle.tac_ir.specs.declared.run.Answer.{Answer}
 use Rattle.tac_ir.specs.declared.run.Entry.{Entry}
@@ -32,7 +32,7 @@ use Rattle.path_law.proofs.Settled.{IsChanged, here_is, other_is, by_name, still
 -- The beginning.
 
 begun_threads : (m : Module) (root : FlatLife) (f : FlatLives) → RunsOn flat_meaning m.code (root_of flat_meaning m.code (root_stack m)) root → IsChanged nobody 1 (Some root) f → AreSettled m [] f
-unfolding Begins own
+unfolding BeginsIn own
 begun_threads m root f ran changes =
     let awake = runs_awake m.code (root_of flat_meaning m.code (root_stack m)) root ran refl in
     let nobody_else : (P : ℕ → FlatLife → Type 0) → P 1 root → (k : ℕ) (l : FlatLife) → f k ≡ Some l → P k l =

@@ -2,8 +2,8 @@
 use Rattle.std.proofs.Common.{◌≡◌, ℕ, ◌+◌, ◌*◌, ◌/◌, ◌%◌, ◌≤◌, ◌<◌, List, [], ◌∷◌, Bool, true, false, refl, arith, sym, ◌∙◌, ap, subst}
 use Rattle.std.specs.Prelude.{nat_eq, nat_lt, nat_le, ◌&&◌}
 use Rattle.std.proofs.lemmas.Bool.{eqb-true, eq-eqb, ne_eqb, ltb-true, leb-true, lt-ltb, le-leb}
-use Rattle.dfi_base.specs.Lives.{is_start_of, own, Begins, branches_after, Ended}
-use Rattle.dfi_base.specs.Lives.Ended.{ended}
+use Rattle.dfi_base.specs.Lives.{BeginsIn, is_start_of, own, Begins, branches_after, Ended}
+use Rattle.dfi_base.specs.Lives.EndedIn.{ended}
 use Rattle.tac_ir.specs.declared.run.Entry.{Entry}
 use Rattle.tac_ir.specs.Module.{Module}
 use Rattle.tac_ir.specs.Path.{Start}
@@ -80,16 +80,16 @@ begins_by m h n s start = elim start [
 ]
 
 pub begins_same : (m : Module) (e : Entry) (h : List Entry) (n : ℕ) (s : Start) → Starts m n e ≡ false → Begins (threads_of m) h n s → Begins (threads_of m) (e ∷ h) n s
-unfolding Begins
+unfolding BeginsIn
 begins_same m e h n s none b = subst (begins_by m h n s) (sym none) b
 
 pub begun_same : (m : Module) (e : Entry) (h : List Entry) (n : ℕ) (s : Start) → Starts m n e ≡ false → Begins (threads_of m) (e ∷ h) n s → Begins (threads_of m) h n s
-unfolding Begins
+unfolding BeginsIn
 begun_same m e h n s none b = subst (begins_by m h n s) none b
 
 pub begins_branch : (m : Module) (e : Entry) (h : List Entry) (n : ℕ) (s parent : Start) → Starts m n e ≡ true → Begins (threads_of m) h (n / 16) parent
     → IsForked m.code parent (own (threads_of m) (n / 16) h) (n % 16) s → Begins (threads_of m) (e ∷ h) n s
-unfolding Begins
+unfolding BeginsIn
 begins_branch m e h n s parent start b forked = subst (begins_by m h n s) (sym start) (parent, b, forked)
 
 -- Ends.

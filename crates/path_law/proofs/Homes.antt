@@ -9,9 +9,9 @@ use Rattle.tac_ir.specs.declared.code.Lined.{Lined}
 use Rattle.tac_ir.specs.Layout.{lines_of}
 use Rattle.tac_ir.specs.GoodForm.{GoodForm, NamesExist, IsGoodCall, IsGoodCode, IsLastKind, all_targets_of}
 use Rattle.tac_thread.specs.tools.Fetched.{instr_in}
-use Rattle.path_law.proofs.Regions.{IsOutside}
-use Rattle.path_law.proofs.Inside.{end_inside}
-use Rattle.path_law.proofs.Outside.{start_outside, next_outside, target_outside}
+use Rattle.tac_ir.proofs.regions.Counted.{IsOutside}
+use Rattle.tac_ir.proofs.regions.Inside.{end_inside}
+use Rattle.tac_ir.proofs.regions.Outside.{start_outside, next_outside, target_outside}
 
 -- an instruction of function f that stands in no branch
 pub record IsHome (c : Code) (f at : ℕ) : Type 0 where

@@ -25,9 +25,5 @@ pub mod Forks
 pub mod TreeLaws
 pub mod Fitting
 pub mod Stopped
-pub mod Regions
-pub mod Inside
-pub mod Outside
-pub mod Innermost
 pub mod Homes
 pub mod MainPath

@@ -15,7 +15,7 @@ use Rattle.tac_ir.specs.GoodForm.{GoodForm, all_targets_of}
 use Rattle.path_law.specs.Standing.{IsCall}
 use Rattle.path_law.specs.Wants.{ended_with, EndsWith}
 use Rattle.path_law.proofs.Returns.{found_call}
-use Rattle.path_law.proofs.Regions.{IsOutside, outside_if, none_if}
+use Rattle.tac_ir.proofs.regions.Counted.{IsOutside, outside_if, none_if}
 use Rattle.path_law.proofs.Homes.{IsHome, is_passed, home_instr, entry_home, next_home, target_home, no_end_home, callee_exists}
 
 -- a point in no branch

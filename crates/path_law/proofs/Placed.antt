@@ -2,7 +2,7 @@
 use Rattle.std.proofs.Common.{◌≡◌, ℕ, ◌+◌, ◌*◌, ◌/◌, ◌%◌, ◌≤◌, ◌<◌, List, Bool, true, false, refl, Option, Some, None, arith, sym, ◌∙◌, ap, subst}
 use Rattle.dfi_base.specs.Lives
 use Rattle.dfi_base.specs.Lives.{own, Begins, Ended}
-use Rattle.dfi_base.specs.Lives.Ended.{ended}
+use Rattle.dfi_base.specs.Lives.EndedIn.{ended}
 use Rattle.tac_ir.specs.declared.run.Op.{Op}
 use Rattle.tac_ir.specs.declared.run.Entry.{Entry}
 use Rattle.tac_ir.specs.Module.{Module}

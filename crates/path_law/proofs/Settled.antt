@@ -2,7 +2,7 @@
 use Rattle.std.proofs.Common.{◌≡◌, ℕ, ◌+◌, ◌*◌, ◌/◌, ◌%◌, ◌≤◌, ◌<◌, List, Bool, true, false, refl, Option, Some, None, arith, sym, ◌∙◌, ap, subst, ⊎_elim}
 use Rattle.std.proofs.lemmas.Bool.{cases_eq}
 use Rattle.dfi_base.specs.Lives.{own, Ended}
-use Rattle.dfi_base.specs.Lives.Ended.{ended}
+use Rattle.dfi_base.specs.Lives.EndedIn.{ended}
 use Rattle.tac_ir.specs.declared.run.Entry.{Entry}
 use Rattle.tac_ir.specs.Module.{Module}
 use Rattle.tac_ir.specs.Threads.{threads_of}
@@ -52,7 +52,7 @@ pub end_of : (m : Module) (h : List Entry) (f : FlatLives) (n : ℕ) (v : Option
 end_of m h f n v threads e =
     let p = threads.lives n e.life e.lived in
     let last = ends m.code p.start (own (threads_of m) n h) e.life v p.stands e.want in
-    ended n p.start p.begins (last.steps, last.path, last.last) (subst (BranchesAre m h n) e.awake (threads.branches n e.life e.lived))
+    ended n p.start p.begins (v, last) (subst (BranchesAre m h n) e.awake (threads.branches n e.life e.lived))
 
 -- Changes of one thread.
 

@@ -2,7 +2,7 @@
 use Rattle.std.proofs.Common.{◌≡◌, ℕ, ◌+◌, ◌*◌, ◌≤◌, ◌<◌, List, ◌∷◌, Bool, true, false, refl, Option, Some, None, arith, sym, subst, ⊎_elim}
 use Rattle.std.proofs.lemmas.Bool.{cases_eq}
 use Rattle.dfi_base.specs.Lives.{own, Ended}
-use Rattle.dfi_base.specs.Lives.Ended.{ended}
+use Rattle.dfi_base.specs.Lives.EndedIn.{ended}
 use Rattle.tac_ir.specs.declared.run.Op.{Op}
 use Rattle.tac_ir.specs.declared.run.Answer.{Answer}
 use Rattle.tac_ir.specs.declared.run.Entry.{Entry}

@@ -9,7 +9,7 @@ use Rattle.tac_ir.specs.GoodForm.{GoodForm}
 use Rattle.tac_ir.specs.Words.{int_of}
 use Rattle.tac_ir.specs.Layout.{instr_at}
 use Rattle.tac_ir.specs.Path.{next_spot, temp_of}
-use Rattle.tac_ir.specs.CoreRun.{Returns, returned}
+use Rattle.tac_ir.specs.CoreRun.{Returns}
 use Rattle.tac_ir.specs.Threads.{root_start, threads_of}
 use Rattle.tac_thread.specs.Threads.{is_waiting, running, main_value, IsRunnable}
 use Rattle.tac_thread.specs.Flat.{flat_meaning}
@@ -53,23 +53,7 @@ same_end m h f d alive = (λ none. alive.place.settled.threads.gone 1 (root_star
 -- a main that returned gave its value to the run
 pub returned_value : (m : Module) (h : List Entry) (x : ℕ) → Ended (threads_of m) h 1 → Begins (threads_of m) h 1 (root_start m) → EndsWith m.code (root_start m) (own (threads_of m) 1 h) (Some x)
     → Returns m h (int_of x)
-returned_value m h x over begins last =
-    let c = m.code in
-    let spot = next_spot c (root_start m) last.steps in
-    record {
-      start = root_start m;
-      begins = begins;
-      steps = last.steps;
-      path = last.path;
-      last = last.last;
-      ended = over;
-      value = ap int_of (value_of (temp_of c (root_start m) last.steps spot.act) (instr_at c spot.point) last.value);
-    }
-  where
-    value_of : (val : ℕ → ℕ) (i : Instr) → Some x ≡ ended_with val i → x ≡ val (returned i)
-    value_of val (Instr.Ret y None) is = cc
-    value_of val (Instr.Ret y (Some r)) is = cc
-    value_of val i is = cc
+returned_value m h x over begins last = record { start = root_start m; begins = begins; word = x; last = last; ended = over; value = refl }
 
 pub main_value_is : (m : Module) (h : List Entry) (f : FlatLives) (d : Option ℕ) → AreAlive m h f d → Ended (threads_of m) h 1 → HasReturned m h d
 main_value_is m h f d alive over =

@@ -19,11 +19,11 @@ use Rattle.tac_ir.specs.GoodForm.{shapes_named, count_of, GoodShapes, IsGoodGlob
 
 -- Tests.
 
-left_of : (a b : Bool) → (a && b) ≡ true → a ≡ true
+pub left_of : (a b : Bool) → (a && b) ≡ true → a ≡ true
 left_of true b h = refl
 left_of false b h = h
 
-right_of : (a b : Bool) → (a && b) ≡ true → b ≡ true
+pub right_of : (a b : Bool) → (a && b) ≡ true → b ≡ true
 right_of true b h = h
 right_of false b h = cc
 
@@ -35,13 +35,13 @@ unless : (a b : Bool) → (not a || b) ≡ true → a ≡ true → b ≡ true
 unless true b h e = h
 unless false b h e = cc
 
-lt-is : (a b : ℕ) → nat_lt a b ≡ true → a < b
+pub lt-is : (a b : ℕ) → nat_lt a b ≡ true → a < b
 lt-is a b h = grind (arith, nat_lt)
 
-le-is : (a b : ℕ) → nat_le a b ≡ true → a ≤ b
+pub le-is : (a b : ℕ) → nat_le a b ≡ true → a ≤ b
 le-is a b h = grind (arith, nat_le)
 
-eq-is : (a b : ℕ) → nat_eq a b ≡ true → a ≡ b
+pub eq-is : (a b : ℕ) → nat_eq a b ≡ true → a ≡ b
 eq-is a b h = grind (arith, nat_eq)
 
 le-test : (a b : ℕ) → a ≤ b → nat_le a b ≡ true
@@ -60,7 +60,7 @@ each_is test at (y ∷ xs) (suc i) x h e = let there : suc at + i ≡ at + suc i
 each_at : {A : Type 0} (test : ℕ → A → Bool) (xs : List A) (i : ℕ) (x : A) → each_from test 0 xs ≡ true → slice_get xs i ≡ Some x → test i x ≡ true
 each_at test xs i x h e = let here : 0 + i ≡ i = omega arith in subst (λ k. test k x ≡ true) here (each_is test 0 xs i x h e)
 
-all_is : {A : Type 0} (P : A → Type 0) (test : A → Bool) → ((x : A) → test x ≡ true → P x) → (xs : List A) → list_all test xs ≡ true → All P xs
+pub all_is : {A : Type 0} (P : A → Type 0) (test : A → Bool) → ((x : A) → test x ≡ true → P x) → (xs : List A) → list_all test xs ≡ true → All P xs
 all_is P test sound [] h = λ k d within. absurd (omega arith)
 all_is {A} P test sound (x ∷ xs) h = λ k d within. at k d within (all_is P test sound xs (right_of _ _ h))
   where

@@ -6,6 +6,17 @@ pub mod Checked
 pub mod OneRun
 pub mod RowRuns
 pub mod RowJoin
+pub mod RowNodes
 pub mod FormNumbers
 pub mod ShapeWords
 pub mod FormTest
+pub mod Numbering
+pub mod LinkWrites
+pub mod regions
+pub mod Locality
+pub mod Lasting
+pub mod ModuleTest
+pub mod RowModules
+pub mod NodePlaces
+pub mod AccessNumbers
+pub mod FactsAscend

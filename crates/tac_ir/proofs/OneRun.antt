@@ -1,9 +1,12 @@
 -- The run along the least runnable names is one.
-use Rattle.std.proofs.Common.{◌≡◌, ℕ, ◌≤◌, ◌<◌, List, [], ◌∷◌, length, reverse, true, false, refl, arith, sym, ◌∙◌, ap, subst, ◌⊎◌, inl, inr}
+use Rattle.std.proofs.Common.{◌≡◌, ℕ, ◌≤◌, ◌<◌, List, [], ◌∷◌, length, reverse, false, refl, Some, arith, sym, ◌∙◌, ap, subst}
 use Rattle.std.specs.Prelude.{ℤ, pos, negsuc, nat_eq, if◌then◌else◌}
-use Rattle.std.proofs.lemmas.Bool.{cases_eq, ne_eqb}
+use Rattle.std.proofs.lemmas.Bool.{ne_eqb}
 use Rattle.std.proofs.lemmas.List.{reverse-reverse, length-reverse}
-use Rattle.dfi_base.specs.Lives.{own, Ended, IsNext, IsRunnable}
+use Rattle.dfi_base.specs.Lives.{own, Ended}
+use Rattle.dfi_base.specs.Grown.{GoesOnIn, IsGrown, IsLeast}
+use Rattle.dfi_base.specs.Alike.{FitsOnce}
+use Rattle.dfi_base.proofs.OneRun.{entry_one, least_one, least_longer}
 use Rattle.tac_ir.specs.declared.run.Op.{Op}
 use Rattle.tac_ir.specs.declared.run.Stop.{Stop}
 use Rattle.tac_ir.specs.declared.run.Answer.{Answer}
@@ -13,15 +16,12 @@ use Rattle.tac_ir.specs.declared.run.Limit.{Limit}
 use Rattle.tac_ir.specs.declared.run.Journal.{Journal}
 use Rattle.tac_ir.specs.Module.{Module}
 use Rattle.tac_ir.specs.Desk.{Block, IsFirstFit}
-use Rattle.tac_ir.specs.Path.{Step, Start, next_spot, temp_of, IsPath, stops}
-use Rattle.tac_ir.specs.Layout.{instr_at}
-use Rattle.tac_ir.specs.Threads.{threads_of}
+use Rattle.tac_ir.specs.Path.{stops}
+use Rattle.tac_ir.specs.Threads.{Want, EndsWith, root_start, threads_of}
 use Rattle.tac_ir.specs.Answers.{IsBlockAnswer, IsAnswer}
-use Rattle.tac_ir.specs.CoreRun.{returned, GoesOn, Follows, IsHistory, Returns, end_by, end_after, IsEnd, IsByLeast, LeastRun}
+use Rattle.tac_ir.specs.CoreRun.{GoesOn, Follows, IsHistory, Returns, end_by, end_after, IsEnd, IsByLeast, LeastRun}
 use Rattle.tac_ir.specs.Words.{int_of}
-use Rattle.tac_ir.specs.Effect.{is_last}
-use Rattle.tac_ir.proofs.Unique.{unique}
-use Rattle.tac_ir.proofs.Living.{begins_one, wanted_one}
+use Rattle.tac_ir.proofs.Living.{deterministic, begins_one, ends_one}
 
 -- two numbers of which neither is less are one
 neither : (v w : ℕ) → (v < w → ⊥) → (w < v → ⊥) → v ≡ w
@@ -51,47 +51,49 @@ answer_one m input h n room op a b x y = x ∙ sym y
 
 -- Entries.
 
+-- the entry is what was wanted, with its answer, and the run had not ended
+pub record FitsRun (m : Module) (input : List ℤ) (h : List Entry) (w : Want) (e : Entry) : Type 0 where
+  pub point : e.point ≡ w.point
+  pub op : e.op ≡ w.op
+  pub answer : IsAnswer m input h e.name.0 w.room e.op e.answer
+  pub going : GoesOn h
+  pub living : Ended (threads_of m) h 1 → ⊥
+
+-- one entry of a name fits
+pub fits_once : (m : Module) (input : List ℤ) → FitsOnce (threads_of m) (FitsRun m input)
+fits_once m input h w d e name a b =
+    let points = a.point ∙ sym b.point in
+    let ops = a.op ∙ sym b.op in
+    let at_name = subst (λ n. IsAnswer m input h n w.room d.op d.answer) name a.answer in
+    let at_op = subst (λ op. IsAnswer m input h e.name.0 w.room op d.answer) ops at_name in
+    let answers = answer_one m input h e.name.0 w.room e.op d.answer e.answer at_op b.answer in
+    λ i. record { name = record { 0 = name i }; point = points i; op = ops i; answer = answers i }
+
+-- what follows goes on
+pub goes_on : (m : Module) (input : List ℤ) (h : List Entry) (e : Entry) → Follows m input h e → GoesOnIn (threads_of m) (FitsRun m input) 1 (root_start m) h e
+goes_on m input h e f = record {
+  start = f.start;
+  want = f.want;
+  next = f.next;
+  fits = record { point = f.point; op = f.op; answer = f.answer; going = f.going; living = f.living };
+}
+
 -- one entry of a name follows
 pub follows_one : (m : Module) (input : List ℤ) (h : List Entry) (d e : Entry) → d.name.0 ≡ e.name.0 → Follows m input h d → Follows m input h e → d ≡ e
 follows_one m input h d e name a b =
-    let next = subst (λ n. IsNext (threads_of m) h n a.start a.want) name a.next in
-    let same = (wanted_one m h e.name.0 a.start b.start a.want b.want next b.next).1 in
-    let points = a.point ∙ ap (λ w. w.point) same ∙ sym b.point in
-    let ops = a.op ∙ ap (λ w. w.op) same ∙ sym b.op in
-    let at_name = subst (λ n. IsAnswer m input h n a.want.room d.op d.answer) name a.answer in
-    let at_room = subst (λ w. IsAnswer m input h e.name.0 w.room d.op d.answer) same at_name in
-    let at_op = subst (λ op. IsAnswer m input h e.name.0 b.want.room op d.answer) ops at_room in
-    let answers = answer_one m input h e.name.0 b.want.room e.op d.answer e.answer at_op b.answer in
-    λ i. record { name = record { 0 = name i }; point = points i; op = ops i; answer = answers i }
+    entry_one (threads_of m) (FitsRun m input) (deterministic m) (fits_once m input) 1 (root_start m) h d e name (goes_on m input h d a) (goes_on m input h e b)
 
--- Histories.
+-- Histories: each is grown from thread 1 on.
 
-module _ (m : Module) (input : List ℤ) where
-  -- two histories of one length are one
-  level : (xs ys : List Entry) → length xs ≡ length ys → IsHistory m input xs → IsHistory m input ys → IsByLeast m xs → IsByLeast m ys → xs ≡ ys
-  unfolding IsHistory IsByLeast
-  level [] [] n hx hy lx ly = refl
-  level [] (y ∷ ys) n hx hy lx ly = absurd (omega (arith, n))
-  level (x ∷ xs) [] n hx hy lx ly = absurd (omega (arith, n))
-  level (x ∷ xs) (y ∷ ys) n hx hy lx ly =
-      let tails = level xs ys (omega (arith, n)) hx.1 hy.1 lx.1 ly.1 in
-      let fx = subst (λ l. Follows m input l x) tails hx.0 in
-      let nx = subst (λ l. (k : ℕ) → k < x.name.0 → IsRunnable (threads_of m) l k → ⊥) tails lx.0 in
-      let names = neither x.name.0 y.name.0 (λ l. ly.0 x.name.0 l (fx.start, fx.want, fx.next)) (λ l. nx y.name.0 l (hy.0.start, hy.0.want, hy.0.next)) in
-      let heads = follows_one m input ys x y names fx hy.0 in
-      λ i. heads i ∷ tails i
+pub history_grown : (m : Module) (input : List ℤ) (h : List Entry) → IsHistory m input h → IsGrown (threads_of m) (FitsRun m input) 1 (root_start m) h
+unfolding IsHistory IsGrown
+history_grown m input [] run = tt
+history_grown m input (e ∷ h) run = (goes_on m input h e run.0, history_grown m input h run.1)
 
-  -- a longer history goes on from the shorter
-  goes_on : (ys xs : List Entry) → length xs < length ys → IsHistory m input xs → IsHistory m input ys → IsByLeast m xs → IsByLeast m ys → (GoesOn xs) × (Ended (threads_of m) xs 1 → ⊥)
-  unfolding IsHistory IsByLeast
-  goes_on [] xs n hx hy lx ly = absurd (omega (arith, n))
-  goes_on (y ∷ ys) xs n hx hy lx ly = by (cases_eq (length ys) (length xs)) (goes_on ys xs)
-    where
-      by : (length ys ≡ length xs) ⊎ (length ys ≡ length xs → ⊥)
-          → (length xs < length ys → IsHistory m input xs → IsHistory m input ys → IsByLeast m xs → IsByLeast m ys → (GoesOn xs) × (Ended (threads_of m) xs 1 → ⊥))
-          → (GoesOn xs) × (Ended (threads_of m) xs 1 → ⊥)
-      by (inl e) earlier = subst (λ l. (GoesOn l) × (Ended (threads_of m) l 1 → ⊥)) (level ys xs e hy.1 hx ly.1 lx) (hy.0.going, hy.0.living)
-      by (inr d) earlier = earlier (omega (arith, n, d)) hx hy.1 lx ly.1
+pub by_least : (m : Module) (h : List Entry) → IsByLeast m h → IsLeast (threads_of m) 1 (root_start m) h
+unfolding IsByLeast IsLeast
+by_least m [] least = tt
+by_least m (e ∷ h) least = (least.0, by_least m h least.1)
 
 -- Ends.
 
@@ -110,21 +112,17 @@ ends_cut : (m : Module) (budget : ℕ) (h : List Entry) (end : End) → GoesOn h
 ends_cut m budget h (End.Done v) going living short e = absurd (living e.ended)
 ends_cut m budget h end going living short e = e.1 ∙ cut_after budget h going short
 
--- the value that main returns behind these steps
-abbrev value_behind : Module → Start → List Step → ℤ
-value_behind m s steps = (let spot = next_spot m.code s steps in int_of (temp_of m.code s steps spot.act (returned (instr_at m.code spot.point))))
-
 -- main returns one value
 returns_one : (m : Module) (h : List Entry) (v w : ℤ) → Returns m h v → Returns m h w → v ≡ w
 returns_one m h v w a b =
     let starts = begins_one m h 1 a.start b.start a.begins b.begins in
-    let path = subst (λ s. IsPath m.code s a.steps (own (threads_of m) 1 h)) starts a.path in
-    let last = subst (λ s. is_last (instr_at m.code (next_spot m.code s a.steps).point) ≡ true) starts a.last in
-    let steps = unique m.code b.start a.steps b.steps (own (threads_of m) 1 h) (inl last) (inl b.last) path b.path in
-    a.value ∙ ap (λ s. value_behind m s a.steps) starts ∙ ap (value_behind m b.start) steps ∙ sym b.value
+    let last = subst (λ s. EndsWith m.code s (own (threads_of m) 1 h) (Some a.word)) starts a.last in
+    let values : Some a.word ≡ Some b.word = ends_one m.code b.start (own (threads_of m) 1 h) (Some a.word) (Some b.word) last b.last in
+    let words : a.word ≡ b.word = cc in
+    a.value ∙ ap int_of words ∙ sym b.value
 
 -- a history has one end
-end_one : (m : Module) (budget : ℕ) (h : List Entry) (a b : End) → IsEnd m budget h a → IsEnd m budget h b → a ≡ b
+pub end_one : (m : Module) (budget : ℕ) (h : List Entry) (a b : End) → IsEnd m budget h a → IsEnd m budget h b → a ≡ b
 end_one m budget h (End.Done v) (End.Done w) x y = ap End.Done (returns_one m h v w x y)
 end_one m budget h (End.Done v) b x y = absurd (y.0 x.ended)
 end_one m budget h a (End.Done w) x y = absurd (x.0 y.ended)
@@ -135,15 +133,17 @@ end_one m budget h a b x y = x.1 ∙ sym y.1
 -- a whole run is no shorter than another
 no_shorter : (m : Module) (input : List ℤ) (budget : ℕ) (j k : Journal) → LeastRun m input budget j → LeastRun m input budget k → length (reverse j.entries) < length (reverse k.entries) → ⊥
 no_shorter m input budget j k a b short =
-    let on = goes_on m input (reverse k.entries) (reverse j.entries) short a.run.history b.run.history a.least b.least in
+    let more = least_longer (threads_of m) (FitsRun m input) (deterministic m) (fits_once m input) 1 (root_start m) (reverse k.entries) (reverse j.entries) short
+    (history_grown m input (reverse j.entries) a.run.history) (history_grown m input (reverse k.entries) b.run.history) (by_least m (reverse j.entries) a.least) (by_least m (reverse k.entries) b.least) in
     let within : length (reverse k.entries) ≤ budget = omega (arith, length-reverse k.entries, b.run.within) in
-    a.whole (ends_cut m budget (reverse j.entries) j.end on.0 on.1 (omega arith) a.run.end)
+    a.whole (ends_cut m budget (reverse j.entries) j.end more.1.fits.going more.1.fits.living (omega arith) a.run.end)
 
 -- the history of a run along the least runnable names is one
 history_one : (m : Module) (input : List ℤ) (budget : ℕ) (j k : Journal) → LeastRun m input budget j → LeastRun m input budget k → reverse j.entries ≡ reverse k.entries
 history_one m input budget j k a b =
     let lengths = neither (length (reverse j.entries)) (length (reverse k.entries)) (no_shorter m input budget j k a b) (no_shorter m input budget k j b a) in
-    level m input (reverse j.entries) (reverse k.entries) lengths a.run.history b.run.history a.least b.least
+    least_one (threads_of m) (FitsRun m input) (deterministic m) (fits_once m input) 1 (root_start m) (reverse j.entries) (reverse k.entries) lengths
+    (history_grown m input (reverse j.entries) a.run.history) (history_grown m input (reverse k.entries) b.run.history) (by_least m (reverse j.entries) a.least) (by_least m (reverse k.entries) b.least)
 
 -- the run along the least runnable names is one
 pub run_one : (m : Module) (input : List ℤ) (budget : ℕ) (j k : Journal) → LeastRun m input budget j → LeastRun m input budget k → j ≡ k

@@ -1,13 +1,13 @@
 -- The journals of the first two rows are runs along the least runnable names.
 use Rattle.std.proofs.Common.{◌≡◌, ℕ, List, [], ◌∷◌, reverse, refl, Some, arith, sym, subst}
 use Rattle.std.specs.Prelude.{pos}
-use Rattle.dfi_base.specs.Lives.{own, Begins, Ended, IsNext, branches_after}
-use Rattle.dfi_base.specs.Lives.Ended.{ended}
+use Rattle.dfi_base.specs.Lives.{own, Begins, BeginsIn, Ended, IsNext, branches_after}
+use Rattle.dfi_base.specs.Lives.EndedIn.{ended}
 use Rattle.tac_ir.specs.declared.run.Entry.{Entry}
 use Rattle.tac_ir.specs.Module.{Module}
 use Rattle.tac_ir.specs.Layout.{words_in}
 use Rattle.tac_ir.specs.Path.{Step, IsPath, calls_in, call_of, frame_end, base_of, here_at, temp_of, next_spot, event_at}
-use Rattle.tac_ir.specs.Threads.{Want, root_start, room_at, threads_of}
+use Rattle.tac_ir.specs.Threads.{Want, EndsWith, root_start, room_at, threads_of}
 use Rattle.tac_ir.specs.Last.{starting, last_write}
 use Rattle.tac_ir.specs.Answers.{IsAnswer}
 use Rattle.tac_ir.specs.CoreRun.{GoesOn, Follows, IsHistory, Returns, IsByLeast, LeastRun}
@@ -78,24 +78,24 @@ main_least m (e ∷ h) a = (λ n l r. absurd (never_zero m h r.0 (subst (λ k. B
 
 -- each entry within the array follows
 inside_history : MainHistory (indexed 3) (reverse inside.entries)
-unfolding steps_after trace own Begins IsPath next_spot event_at here_at temp_of calls_in call_of frame_end base_of last_write starting words_in
+unfolding steps_after trace own BeginsIn IsPath next_spot event_at here_at temp_of calls_in call_of frame_end base_of last_write starting words_in
 inside_history = assumption (refl, tt)
 
 -- and main returns 0
 inside_returns : Returns (indexed 3) (reverse inside.entries) (pos 0)
-unfolding steps_after trace own Begins IsPath next_spot event_at here_at temp_of calls_in call_of frame_end base_of words_in
+unfolding steps_after trace own BeginsIn IsPath next_spot event_at here_at temp_of calls_in call_of frame_end base_of words_in
 inside_returns =
     let h = reverse inside.entries in
     let start = root_start (indexed 3) in
     let path : IsPath (indexed 3).code start (main_steps (indexed 3) h) (own (threads_of (indexed 3)) 1 h) = assumption (refl, tt) in
+    let last : EndsWith (indexed 3).code start (own (threads_of (indexed 3)) 1 h) (Some 0) = record { steps = main_steps (indexed 3) h; path = path; last = refl; value = refl } in
     record {
       start = start;
       begins = (refl, refl);
-      steps = main_steps (indexed 3) h;
-      path = path;
-      last = refl;
+      word = 0;
+      last = last;
       value = refl;
-      ended = ended 1 start (refl, refl) (main_steps (indexed 3) h, path, refl) (λ i low high. absurd (omega arith));
+      ended = ended 1 start (refl, refl) (Some 0, last) (λ i low high. absurd (omega arith));
     }
 
 -- within the array, the whole run
@@ -108,7 +108,7 @@ inside_run = record {
 
 -- each entry outside it follows
 outside_history : MainHistory (indexed 4) (reverse outside.entries)
-unfolding steps_after trace own Begins IsPath next_spot event_at here_at temp_of calls_in call_of frame_end base_of last_write starting words_in
+unfolding steps_after trace own BeginsIn IsPath next_spot event_at here_at temp_of calls_in call_of frame_end base_of last_write starting words_in
 outside_history = assumption (refl, tt)
 
 -- thread 1 has not ended where it was stopped

@@ -154,7 +154,7 @@ inside_text = refl
 -- A write over a return link. Line 1: int f(int *p) { 2: p[i] = 1; 3: return 0; 4: } 5: int main() { 6: int a[2]; 7: f(a); 8: putint(4); 9: }
 
 -- the module of this program for an index i
-abbrev overrun : ℕ → Module
+abbrev pub overrun : ℕ → Module
 overrun i = record {
   size = Size.Small;
   classes = 1 ∷ 2 ∷ 3 ∷ [];

@@ -42,7 +42,7 @@ all_below n xs all k x e =
     let same : get_or xs k x ≡ x = cc in
     subst (λ y. y < n) same (all k x within)
 
-reverse-split : (shapes : List Shape) (s : ℕ) (shape : Shape) → slice_get shapes s ≡ Some shape → reverse shapes ≡ reverse (drop (s + 1) shapes) ++ (shape ∷ reverse (take s shapes))
+pub reverse-split : (shapes : List Shape) (s : ℕ) (shape : Shape) → slice_get shapes s ≡ Some shape → reverse shapes ≡ reverse (drop (s + 1) shapes) ++ (shape ∷ reverse (take s shapes))
 reverse-split shapes s shape found =
     let within : s < length shapes = slice_get_within shapes s shape found in
     let here : Some (get_or shapes s shape) ≡ Some shape = sym (slice_get-get_or shapes s shape within) ∙ found in

@@ -1,5 +1,7 @@
 -- What an event is answered, after the entries before it.
 use Rattle.std.specs.Prelude.{◌≡◌, ℕ, zero, suc, ◌-◌, ◌/◌, Bool, true, false, not, ◌&&◌, ◌||◌, nat_eq, nat_lt, nat_le, if◌then◌else◌, Some, None, List, [], ◌∷◌, ℤ, pos, negsuc, length, slice_get}
+use Rattle.dfi_base.specs.Limits.{depth_limit}
+pub use Rattle.dfi_base.specs.Names.{depth_within, depth_of}
 use Rattle.tac_ir.specs.declared.run.Op.{Op}
 use Rattle.tac_ir.specs.declared.run.Stop.{Stop}
 use Rattle.tac_ir.specs.declared.run.Answer.{Answer}
@@ -64,18 +66,10 @@ input_at input n = elim (slice_get input n) [ None ↦ 0 | Some v ↦ word_of v 
 abbrev pub call_answer : Module → ℕ → ℕ → Answer
 call_answer m room f = if nat_lt room (frame_words m.code f) then Answer.Stop Stop.Stack else Answer.Unit
 
--- how deep a thread is: thread 1 is 0 deep, and a branch one deeper than its parent; names of 64 bits are at most 15 deep
-abbrev pub depth_within : ℕ → ℕ → ℕ
-depth_within zero n = 0
-depth_within (suc turns) n = elim (nat_lt n 16) [ true ↦ 0 | false ↦ suc (depth_within turns (n / 16)) ]
-
-abbrev pub depth_of : ℕ → ℕ
-depth_of n = depth_within 16 n
-
--- a thread that is 14 deep has no branches, and each share of the room has at least a word
+-- the deepest threads have no branches, and each share of the room has at least a word
 abbrev pub fork_answer : ℕ → ℕ → ℕ → Answer
 fork_answer n room branches =
-    if nat_le 14 (depth_of n) then Answer.Stop Stop.Depth
+    if nat_le depth_limit (depth_of n) then Answer.Stop Stop.Depth
     else (if nat_eq (room / branches) 0 then Answer.Stop Stop.Share else Answer.Unit)
 
 -- the answer of an event of thread n, which has so much room, after the history h

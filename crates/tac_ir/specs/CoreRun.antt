@@ -1,7 +1,6 @@
 -- A journal is a run of the core.
-use Rattle.std.specs.Prelude.{◌≡◌, ℕ, ◌≤◌, ◌<◌, true, false, nat_eq, List, [], ◌∷◌, ℤ, reverse, length, if◌then◌else◌}
+use Rattle.std.specs.Prelude.{◌≡◌, ℕ, ◌≤◌, ◌<◌, false, nat_eq, Some, List, [], ◌∷◌, ℤ, reverse, length, if◌then◌else◌}
 use Rattle.dfi_base.specs.Lives.{IsNext, IsRunnable, Ended, Begins, own}
-use Rattle.tac_ir.specs.declared.code.Instr.{Instr}
 use Rattle.tac_ir.specs.declared.run.Answer.{Answer}
 use Rattle.tac_ir.specs.declared.run.Stop.{Stop}
 use Rattle.tac_ir.specs.declared.run.Entry.{Entry}
@@ -10,10 +9,8 @@ use Rattle.tac_ir.specs.declared.run.Limit.{Limit}
 use Rattle.tac_ir.specs.declared.run.Journal.{Journal}
 use Rattle.tac_ir.specs.Module.{Module}
 use Rattle.tac_ir.specs.Words.{int_of}
-use Rattle.tac_ir.specs.Layout.{instr_at}
-use Rattle.tac_ir.specs.Effect.{is_last}
-use Rattle.tac_ir.specs.Path.{Step, Start, next_spot, temp_of, IsPath, stops}
-use Rattle.tac_ir.specs.Threads.{Want, threads_of}
+use Rattle.tac_ir.specs.Path.{Start, stops}
+use Rattle.tac_ir.specs.Threads.{Want, EndsWith, threads_of}
 use Rattle.tac_ir.specs.Answers.{IsAnswer}
 
 -- the newest entry does not stop the run
@@ -37,21 +34,14 @@ unfoldable pub IsHistory : Module → List ℤ → List Entry → Type 0
 IsHistory m input [] = Unit {0}
 IsHistory m input (e ∷ h) = Follows m input h e × IsHistory m input h
 
--- the temporary that main returns
-abbrev pub returned : Instr → ℕ
-returned (Instr.Ret v r) = v
-returned i = 0
-
 -- thread 1 has ended with the value v of main
 pub record Returns (m : Module) (h : List Entry) (v : ℤ) : Type 0 where
   pub start : Start
   pub begins : Begins (threads_of m) h 1 start
-  pub steps : List Step
-  pub path : IsPath m.code start steps (own (threads_of m) 1 h)
-  -- they come to the return of main
-  pub last : is_last (instr_at m.code (next_spot m.code start steps).point) ≡ true
+  pub word : ℕ
+  pub last : EndsWith m.code start (own (threads_of m) 1 h) (Some word)
   pub ended : Ended (threads_of m) h 1
-  pub value : v ≡ (let spot = next_spot m.code start steps in int_of (temp_of m.code start steps spot.act (returned (instr_at m.code spot.point))))
+  pub value : v ≡ int_of word
 
 abbrev pub end_by : Stop → End
 end_by (Stop.Alarm found) = End.Alarm

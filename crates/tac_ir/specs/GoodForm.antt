@@ -1,6 +1,7 @@
 -- The form of code is good: its numbers exist and are in order, its jumps and forks are well nested, and it is within the
 -- limits. (Rows, sets and classes of a module have rules of their own.)
 use Rattle.std.specs.Prelude.{◌≡◌, ℕ, ◌+◌, ◌-◌, ◌<◌, ◌≤◌, ◌⊎◌, true, IsTrue, nat_eq, nat_lt, Some, None, List, [], ◌∷◌, ◌++◌, length, drop, slice_get, All, Contains, count_by, pos}
+use Rattle.dfi_base.specs.Limits.{function_limit, type_limit, global_limit, frame_limit, least_branches, branch_limit, point_limit, definition_limit, node_limit, temporary_limit}
 use Rattle.tac_ir.specs.declared.code.Code.{Code}
 use Rattle.tac_ir.specs.declared.code.Shape.{Shape}
 use Rattle.tac_ir.specs.declared.code.Global.{Global}
@@ -34,7 +35,7 @@ count_of (Shape.Struct parts) = length parts
 pub record IsGoodShape (c : Code) (s : ℕ) (shape : Shape) : Type 0 where
   pub earlier : All (λ named. named < s) (shapes_named shape)
   pub some : 1 ≤ count_of shape
-  pub words : shape_words c s ≤ 24576
+  pub words : shape_words c s ≤ type_limit
 
 pub record GoodShapes (c : Code) : Type 0 where
   pub each : (s : ℕ) (shape : Shape) → slice_get c.shapes s ≡ Some shape → IsGoodShape c s shape
@@ -51,7 +52,7 @@ pub record IsGoodGlobal (c : Code) (g : Global) : Type 0 where
 
 pub record GoodGlobals (c : Code) : Type 0 where
   pub each : All (IsGoodGlobal c) c.globals
-  pub words : words_before c (shapes_of_globals c) (length c.globals) ≤ 8176
+  pub words : words_before c (shapes_of_globals c) (length c.globals) ≤ global_limit
   pub sites : All (λ (s : Site). s.shape < length c.shapes) c.sites
 
 -- Functions.
@@ -61,14 +62,14 @@ pub record IsGoodFrame (c : Code) (f : ℕ) (fun : Fun) : Type 0 where
   -- parameters are the first variables, and have shape 0 or 1
   pub params : fun.params ≤ length fun.vars
   pub params_are_basic : (v s : ℕ) → v < fun.params → slice_get fun.vars v ≡ Some s → s < 2
-  pub words : frame_words c f ≤ 4096
+  pub words : frame_words c f ≤ frame_limit
 
 abbrev pub params_of : Code → ℕ → ℕ
 params_of c f = elim (slice_get c.funs f) [ None ↦ 0 | Some fun ↦ fun.params ]
 
 pub record GoodFuns (c : Code) : Type 0 where
   pub some : 1 ≤ length c.funs
-  pub count : length c.funs ≤ 256
+  pub count : length c.funs ≤ function_limit
   pub main : c.main < length c.funs
   pub main_params : params_of c c.main ≡ 0
   pub frames : (f : ℕ) (fun : Fun) → slice_get c.funs f ≡ Some fun → IsGoodFrame c f fun
@@ -76,10 +77,10 @@ pub record GoodFuns (c : Code) : Type 0 where
 -- Limits on what code alone counts; facts need the tables.
 
 pub record IsWithinLimits (c : Code) : Type 0 where
-  pub points : points_in_code c ≤ 16384
-  pub nodes : nodes_in_code c ≤ 16384
-  pub defs : defs_in_code c ≤ 4096
-  pub temps : temps_in_code c ≤ 32768
+  pub points : points_in_code c ≤ point_limit
+  pub nodes : nodes_in_code c ≤ node_limit
+  pub defs : defs_in_code c ≤ definition_limit
+  pub temps : temps_in_code c ≤ temporary_limit
 
 -- Definitions and reads count up in the order of the code, starting definitions first.
 pub record IsNumbered (c : Code) : Type 0 where
@@ -130,8 +131,8 @@ IsEnd code at = (l : Lined) × (slice_get code at ≡ Some l) × (l.instr ≡ In
 
 -- 2 to 15 branches start at a fork: the first behind it, each other behind an `end`, and so does the join behind them all.
 pub record IsGoodFork (code : List Lined) (f join : ℕ) (entries : List ℕ) : Type 0 where
-  pub some : 2 ≤ length entries
-  pub count : length entries ≤ 15
+  pub some : least_branches ≤ length entries
+  pub count : length entries ≤ branch_limit
   pub first : slice_get entries 0 ≡ Some (f + 1)
   pub ascends : IsTrue (is_chain nat_lt (entries ++ join ∷ []))
   pub ends : All (λ behind. IsEnd code (behind - 1)) (drop 1 entries ++ join ∷ [])

@@ -1,6 +1,8 @@
 -- Where things stand in code and in memory.
 use Rattle.std.specs.Prelude.{ℕ, ◌+◌, ◌*◌, true, false, Some, None, List, [], ◌∷◌, slice_get, slice_index, sum, take, map, reverse, length, nat_eq}
 use Rattle.dfi_base.specs.declared.numbers.Point.{Point}
+use Rattle.dfi_base.specs.MemoryMap.{small_stack_from, small_memory_words, large_stack_from, large_memory_words}
+pub use Rattle.dfi_base.specs.MemoryMap.{globals_from, heap_from}
 use Rattle.tac_ir.specs.declared.code.Code.{Code}
 use Rattle.tac_ir.specs.declared.code.Shape.{Shape}
 use Rattle.tac_ir.specs.declared.code.Place.{Place}
@@ -55,21 +57,15 @@ abbrev pub along : Code → ℕ → List ℕ → ℕ
 along c s [] = 0
 along c s (k ∷ path) = words_before c (parts_of c s) k + along c (slice_index (parts_of c s) k) path
 
--- Memory: 16 reserved words, the globals, the heap, the stacks.
-
-abbrev pub globals_from : ℕ
-globals_from = 16
-
-abbrev pub heap_from : ℕ
-heap_from = 8192
+-- Memory: reserved words, the globals, the heap, the stacks.
 
 abbrev pub stack_from : Size → ℕ
-stack_from Size.Small = 32768
-stack_from Size.Large = 524288
+stack_from Size.Small = small_stack_from
+stack_from Size.Large = large_stack_from
 
 abbrev pub memory_words : Size → ℕ
-memory_words Size.Small = 65536
-memory_words Size.Large = 1048576
+memory_words Size.Small = small_memory_words
+memory_words Size.Large = large_memory_words
 
 abbrev pub shapes_of_globals : Code → List ℕ
 shapes_of_globals c = map (λ g. g.shape) c.globals

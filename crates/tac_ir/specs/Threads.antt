@@ -1,5 +1,5 @@
 -- The threads of a run of a module.
-use Rattle.std.specs.Prelude.{◌≡◌, ℕ, ◌+◌, ◌-◌, ◌*◌, ◌/◌, true, Some, List, slice_index, length}
+use Rattle.std.specs.Prelude.{◌≡◌, ℕ, ◌+◌, ◌-◌, ◌*◌, ◌/◌, ◌%◌, true, Option, Some, None, List, slice_index, length}
 use Rattle.dfi_base.specs.declared.numbers.Point.{Point}
 use Rattle.dfi_base.specs.Lives.{Kind}
 use Rattle.tac_ir.specs.declared.code.Code.{Code}
@@ -10,7 +10,7 @@ use Rattle.tac_ir.specs.declared.run.Entry.{Entry}
 use Rattle.tac_ir.specs.Module.{Module}
 use Rattle.tac_ir.specs.Layout.{stack_from, memory_words, frame_words, instr_at}
 use Rattle.tac_ir.specs.Effect.{Spot, is_last}
-use Rattle.tac_ir.specs.Path.{Step, Start, next_spot, event_at, frame_end, base_of, IsPath}
+use Rattle.tac_ir.specs.Path.{Step, Start, temp_of, next_spot, event_at, frame_end, base_of, IsPath}
 
 -- the next event of a thread, its point, and the words that are left in the thread's region above its frames
 pub record Want : Type 0 where
@@ -61,9 +61,21 @@ pub record IsWanted (c : Code) (s : Start) (own : List Entry) (w : Want) : Type 
   pub event : event_at c s steps (next_spot c s steps) ≡ Some w.op
   pub room : room_at c s steps (next_spot c s steps).act ≡ w.room
 
+-- what the last instruction of a life ends with: main's return with the value of its temporary, an `end` with none
+abbrev pub ended_with : (ℕ → ℕ) → Instr → Option ℕ
+ended_with val (Instr.Ret a None) = Some (val a)
+ended_with val i = None
+
+-- the path of these entries has come to the last step of the life, which ends with this value
+pub record EndsWith (c : Code) (s : Start) (own : List Entry) (v : Option ℕ) : Type 0 where
+  pub steps : List Step
+  pub path : IsPath c s steps own
+  pub last : is_last (instr_at c (next_spot c s steps).point) ≡ true
+  pub value : v ≡ ended_with (temp_of c s steps (next_spot c s steps).act) (instr_at c (next_spot c s steps).point)
+
 -- the path has come to the end of the life
 abbrev pub IsAtEnd : Code → Start → List Entry → Type 0
-IsAtEnd c s own = (steps : List Step) × IsPath c s steps own × (is_last (instr_at c (next_spot c s steps).point) ≡ true)
+IsAtEnd c s own = (v : Option ℕ) × EndsWith c s own v
 
 -- the branches that an entry starts
 abbrev pub forked_by : Op → Answer → ℕ
@@ -76,7 +88,7 @@ threads_of m = record {
   name_of = λ e. e.name.0;
   branches_of = λ e. forked_by e.op e.answer;
   root = root_start m;
-  Branch = IsForked m.code;
+  Branch = λ parent own n branch. IsForked m.code parent own (n % 16) branch;
   Wants = IsWanted m.code;
   Stops = IsAtEnd m.code;
 }

@@ -1,43 +1,29 @@
--- Words of 32 bits, and the integers that they stand for, in two's complement (C99 6.5, where signed arithmetic wraps).
-use Rattle.std.specs.Prelude.{ℕ, ◌+◌, ◌-◌, ◌*◌, ◌%◌, ◌^◌, ℤ, nat_eq, bit_and, bit_or, bit_xor, int_div, int_rem, int_lt, int_le, if◌then◌else◌, Bool, not}
-use Rattle.std.specs.Int.{int_shr, w32, cast_unsigned, cast_signed}
+-- The operators of instructions, as functions of words.
+use Rattle.std.specs.Prelude.{ℕ}
+use Rattle.dfi_base.specs.Words.{word_neg, word_not, word_com, word_add, word_sub, word_mul, word_and, word_or, word_xor, word_shl, word_shr, word_lt, word_gt, word_le, word_ge, word_eq, word_ne, word_quo, word_rem}
 use Rattle.tac_ir.specs.declared.code.UnOp.{UnOp}
 use Rattle.tac_ir.specs.declared.code.BinOp.{BinOp}
-
--- the word of an integer
-abbrev pub word_of : ℤ → ℕ
-word_of z = cast_unsigned w32 z
-
--- the integer that a word stands for
-abbrev pub int_of : ℕ → ℤ
-int_of w = cast_signed w32 w
-
-abbrev pub wrap : ℕ → ℕ
-wrap n = n % 2 ^ 32
-
-abbrev pub truth : Bool → ℕ
-truth b = if b then 1 else 0
+pub use Rattle.dfi_base.specs.Words.{word_of, int_of, wrap, truth}
 
 abbrev pub un_of : UnOp → ℕ → ℕ
-un_of UnOp.Neg a = wrap (2 ^ 32 - a)
-un_of UnOp.Not a = truth (nat_eq a 0)
-un_of UnOp.Com a = 2 ^ 32 - 1 - a
+un_of UnOp.Neg a = word_neg a
+un_of UnOp.Not a = word_not a
+un_of UnOp.Com a = word_com a
 
--- a shift's count is taken modulo 32, and Shr copies the sign; Quo and Rem truncate toward zero
 abbrev pub bin_of : BinOp → ℕ → ℕ → ℕ
-bin_of BinOp.Add a b = wrap (a + b)
-bin_of BinOp.Sub a b = wrap (a + (2 ^ 32 - b))
-bin_of BinOp.Mul a b = wrap (a * b)
-bin_of BinOp.And a b = bit_and a b
-bin_of BinOp.Or a b = bit_or a b
-bin_of BinOp.Xor a b = bit_xor a b
-bin_of BinOp.Shl a b = wrap (a * 2 ^ (b % 32))
-bin_of BinOp.Shr a b = word_of (int_shr (int_of a) (b % 32))
-bin_of BinOp.Lt a b = truth (int_lt (int_of a) (int_of b))
-bin_of BinOp.Gt a b = truth (int_lt (int_of b) (int_of a))
-bin_of BinOp.Le a b = truth (int_le (int_of a) (int_of b))
-bin_of BinOp.Ge a b = truth (int_le (int_of b) (int_of a))
-bin_of BinOp.Eq a b = truth (nat_eq a b)
-bin_of BinOp.Ne a b = truth (not (nat_eq a b))
-bin_of BinOp.Quo a b = word_of (int_div (int_of a) (int_of b))
-bin_of BinOp.Rem a b = word_of (int_rem (int_of a) (int_of b))
+bin_of BinOp.Add a b = word_add a b
+bin_of BinOp.Sub a b = word_sub a b
+bin_of BinOp.Mul a b = word_mul a b
+bin_of BinOp.And a b = word_and a b
+bin_of BinOp.Or a b = word_or a b
+bin_of BinOp.Xor a b = word_xor a b
+bin_of BinOp.Shl a b = word_shl a b
+bin_of BinOp.Shr a b = word_shr a b
+bin_of BinOp.Lt a b = word_lt a b
+bin_of BinOp.Gt a b = word_gt a b
+bin_of BinOp.Le a b = word_le a b
+bin_of BinOp.Ge a b = word_ge a b
+bin_of BinOp.Eq a b = word_eq a b
+bin_of BinOp.Ne a b = word_ne a b
+bin_of BinOp.Quo a b = word_quo a b
+bin_of BinOp.Rem a b = word_rem a b

@@ -1,7 +1,11 @@
 ghost use Rattle.std.specs.Prelude.{◌≡◌};
+ghost use Rattle.tac_ir.specs.Layout.{stack_from, memory_words};
 
 use crate::code::Code;
 use dfi_base::Point;
+use dfi_base::memory_map::{
+    LARGE_MEMORY_WORDS, LARGE_STACK_FROM, SMALL_MEMORY_WORDS, SMALL_STACK_FROM,
+};
 use sqlite_items::Items;
 use std::marker::Model;
 
@@ -10,6 +14,28 @@ use std::marker::Model;
 pub enum Size {
     Small,
     Large,
+}
+
+impl Size {
+    /// The first word of the stacks, which is the first behind the heap.
+    pub fn stack_from(self) -> u32
+        ensures { result ≡ stack_from self }
+    {
+        match self {
+            Size::Small => SMALL_STACK_FROM,
+            Size::Large => LARGE_STACK_FROM,
+        }
+    }
+
+    /// How many words there are.
+    pub fn memory_words(self) -> u32
+        ensures { result ≡ memory_words self }
+    {
+        match self {
+            Size::Small => SMALL_MEMORY_WORDS,
+            Size::Large => LARGE_MEMORY_WORDS,
+        }
+    }
 }
 
 /// The class of each definition, from definition 1 on.
@@ -42,6 +68,19 @@ pub struct PointsRow {
 #[derive(Drop)]
 pub struct Points {
     pub rows: Items<PointsRow>,
+}
+
+/// A definition and a leaf that it may touch.
+#[derive(Clone, Copy)]
+pub struct Fact {
+    pub def: u32,
+    pub leaf: u32,
+}
+
+/// The facts of code, in the order of definitions and then of leaves; they are numbered from 0.
+#[derive(Drop)]
+pub struct Facts {
+    pub pairs: Items<Fact>,
 }
 
 /// The facts that reach a point, ascending.

@@ -30,7 +30,7 @@ use Rattle.tac_lower.proofs.FormNumbers.{IsSteady}
 use Rattle.tac_lower.proofs.FormHolds.{World}
 use Rattle.tac_lower.proofs.FormNames.{Shaped}
 use Rattle.tac_lower.proofs.FormWorlds.{FunAt, fun_at, funs_length, There, objects, AllThere, drafts_there, all_parts, variables_get, times_some}
-use Rattle.tac_lower.proofs.FormKnown.{needed_known, StructKnown, struct_known, array_known, IsBasic, int, pointer, basic}
+use Rattle.tac_lower.proofs.FormKnown.{needed_known, StructKnown, struct_known, array_known, IsBasic, int, pointer, unknown, basic}
 
 -- The program.
 module _ (t : Typed) (well : IsWell t) (bodies : Each (λ f. AreStmts (context_of t f) (placed (record { looped = false; branched = false }) f.body)) t.functions) where
@@ -58,6 +58,7 @@ module _ (t : Typed) (well : IsWell t) (bodies : Each (λ f. AreStmts (context_o
       by : (base : BaseType) (stars : ℕ) → IsBase t.structs base → 1 ≤ item_words (sizes_of t) base stars
       by base (suc n) is = omega arith
       by BaseType.Int zero is = omega arith
+      by BaseType.Unknown zero is = absurd is
       by (BaseType.Struct k) zero is =
           let d = slice_get-get_or t.structs k (record { fields = []; words = 0 }) is in
           let struct = get_or t.structs k (record { fields = []; words = 0 }) in
@@ -96,11 +97,17 @@ module _ (t : Typed) (well : IsWell t) (bodies : Each (λ f. AreStmts (context_o
       let grown = shapes_from-grow t.structs (Shape.Int ∷ Shape.Ptr ∷ []) (types_needed t all_drafts) in
       (ap (λ xs. slice_get xs 0) grown.1, ap (λ xs. slice_get xs 1) grown.1)
 
+  leaf_small : (k : ℕ) → k ≤ 1 → is_leaf (code_of t) k ≡ true
+  leaf_small zero le = ap (λ x. elim x as (λ x. Bool) [ Some Shape.Int ↦ true | Some Shape.Ptr ↦ true | _ ↦ false ]) first_shapes.0
+  leaf_small (suc zero) le = ap (λ x. elim x as (λ x. Bool) [ Some Shape.Int ↦ true | Some Shape.Ptr ↦ true | _ ↦ false ]) first_shapes.1
+  leaf_small (suc (suc k)) le = absurd (omega (arith, le))
+
   leaf_by : (o : ObjectType) (v : Option ExprType) → IsBasic (entry t.structs o (code_of t).shapes) v → is_leaf (code_of t) (shape o) ≡ true
   leaf_by o None basic = elim basic [ ]
   leaf_by o (Some (ExprType.Place p)) basic = elim basic [ ]
   leaf_by o (Some ExprType.Null) basic = elim basic [ ]
   leaf_by o (Some ExprType.Void) basic = elim basic [ ]
+  leaf_by o (Some ExprType.Unknown) (unknown e) = leaf_small (shape o) e
   leaf_by o (Some ExprType.Int) (int e) =
       ap (λ x. elim x as (λ x. Bool) [ Some Shape.Int ↦ true | Some Shape.Ptr ↦ true | _ ↦ false ]) (ap (λ k. slice_get (code_of t).shapes k) e ∙ first_shapes.0)
   leaf_by o (Some (ExprType.Pointer p)) (pointer q e) =

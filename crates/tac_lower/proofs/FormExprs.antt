@@ -8,7 +8,7 @@ use Rattle.c_typed.specs.declared.types.ExprType.{ExprType}
 use Rattle.c_typed.specs.declared.expr.Expr.{Expr}
 use Rattle.c_typed.specs.declared.expr.Form.{Form, out-Form}
 use Rattle.c_typed.specs.declared.expr.Form.TheOpen.{Form-F}
-use Rattle.c_typed.specs.Types.{words_of, scalar_type, fits}
+use Rattle.c_typed.specs.Types.{words_of, scalar_type, accepts}
 use Rattle.c_typed.specs.Exprs.{all_fit}
 use Rattle.c_typed.specs.IsWell.{Context, IsObject, IsTyping, IsField, IsCallOf, IsLayer, IsExpr, AreExprs, known, none, each, operands_of}
 use Rattle.tac_ir.specs.declared.code.Instr.{Instr}
@@ -38,7 +38,7 @@ fits_length : (es : List Expr) (ts : List ObjectType) → all_fit es ts ≡ true
 fits_length [] [] h = refl
 fits_length [] (t ∷ ts) h = cc
 fits_length (e ∷ es) [] h = cc
-fits_length (e ∷ es) (t ∷ ts) h = ap suc (fits_length es ts (second (fits e.typing t) (all_fit es ts) h))
+fits_length (e ∷ es) (t ∷ ts) h = ap suc (fits_length es ts (second (accepts e.typing t) (all_fit es ts) h))
   where
     second : (p q : Bool) → (p && q) ≡ true → q ≡ true
     second true q h = h

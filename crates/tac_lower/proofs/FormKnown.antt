@@ -1,5 +1,5 @@
 -- How a type that is known stands among the shapes.
-use Rattle.std.proofs.Common.{◌≡◌, ℕ, zero, suc, ◌<◌, true, false, List, [], ◌∷◌, ◌++◌, map, reverse, length, Option, Some, refl, ap, sym, ◌∙◌, subst, arith, append_assoc, append-nil, eq-eqb}
+use Rattle.std.proofs.Common.{◌≡◌, ℕ, zero, suc, ◌<◌, ◌≤◌, true, false, List, [], ◌∷◌, ◌++◌, map, reverse, length, Option, Some, refl, ap, sym, ◌∙◌, subst, arith, append_assoc, append-nil, eq-eqb}
 use Rattle.std.specs.Prelude.{nat_eq, slice_get}
 use Rattle.std.proofs.lemmas.List.{reverse-append, length-append, length-reverse}
 use Rattle.std.proofs.lemmas.Bool.{ne_eqb}
@@ -95,6 +95,7 @@ field_later : (later earlier : List Struct) (shapes : List Shape) (base : BaseTy
     → base_entry (struct_entry (later ++ earlier)) base stars shapes ≡ base_entry (struct_entry earlier) base stars shapes
 field_later later earlier shapes base (suc stars) is = refl
 field_later later earlier shapes BaseType.Int zero is = refl
+field_later later earlier shapes BaseType.Unknown zero is = refl
 field_later later earlier shapes (BaseType.Struct k) zero is = struct_later later earlier k shapes is
 
 fields_later : (later earlier : List Struct) (shapes : List Shape) (ts : List ObjectType) → Each (λ t. IsEarlier (length earlier) t.base t.stars) ts
@@ -118,6 +119,7 @@ struct_type (BaseType.Struct k) zero [] j is structs shapes = (let e : k ≡ j =
 struct_type (BaseType.Struct k) zero (n ∷ ns) j is structs shapes = cc
 struct_type (BaseType.Struct k) (suc stars) lengths j is structs shapes = cc
 struct_type BaseType.Int stars lengths j is structs shapes = cc
+struct_type BaseType.Unknown stars lengths j is structs shapes = cc
 
 pub struct_known : (structs : List Struct) (shapes : List Shape) (t : ObjectType) (j : ℕ) (d : Struct) → struct_of t ≡ Some j → slice_get structs j ≡ Some d
     → Each (λ u. IsEarlier j u.base u.stars) d.fields → (entry structs t shapes).shapes ≡ shapes → StructKnown structs shapes t d
@@ -169,6 +171,7 @@ array_known structs shapes t n ns is known =
 pub data IsBasic (e : Entry) : Option ExprType → Type 0 where
   int : e.number ≡ 0 → IsBasic e (Some ExprType.Int)
   pointer : (t : ObjectType) → e.number ≡ 1 → IsBasic e (Some (ExprType.Pointer t))
+  unknown : e.number ≤ 1 → IsBasic e (Some ExprType.Unknown)
 
 basic_by : (structs : Structs) (shapes : List Shape) (base : BaseType) (stars : ℕ) (lengths : List ℕ) (s : ExprType) → scalar_type (record { base = base; stars = stars; lengths = lengths }) ≡ Some s
     → IsBasic (object_entry structs (record { base = base; stars = stars; lengths = lengths }) shapes) (scalar_type (record { base = base; stars = stars; lengths = lengths }))
@@ -176,6 +179,8 @@ basic_by structs shapes BaseType.Int zero [] s is = int refl
 basic_by structs shapes BaseType.Int (suc n) [] s is = pointer _ refl
 basic_by structs shapes (BaseType.Struct k) (suc n) [] s is = pointer _ refl
 basic_by structs shapes (BaseType.Struct k) zero [] s is = cc
+basic_by structs shapes BaseType.Unknown zero [] s is = unknown (omega arith)
+basic_by structs shapes BaseType.Unknown (suc n) [] s is = unknown (omega arith)
 basic_by structs shapes base stars (n ∷ ns) s is = cc
 
 pub basic : (structs : List Struct) (shapes : List Shape) (t : ObjectType) (s : ExprType) → scalar_type t ≡ Some s → IsBasic (entry structs t shapes) (scalar_type t)

@@ -14,7 +14,7 @@ use Rattle.tac_ir.specs.Numbers.{new_def, numbers_in, numbers_in_funs, defs_in_c
 use Rattle.tac_ir.specs.GoodForm.{IsWithinLimits}
 use Rattle.tac_lower.specs.declared.fault.LowerWhat.{LowerWhat}
 use Rattle.tac_lower.specs.declared.fault.LowerFault.{LowerFault}
-use Rattle.tac_lower.specs.Limits.{Share, passing, points_in, starting_in, defs_in, global_nodes, fun_nodes, site_nodes, point_shares, def_shares, node_shares, or_else, point_limit, def_limit, node_limit, first_passed}
+use Rattle.tac_lower.specs.Limits.{Share, passing, points_in, starting_in, defs_in, global_nodes, fun_nodes, site_nodes, point_shares, def_shares, node_shares, or_else, point_limit, definition_limit, node_limit, first_passed}
 
 -- Shares that do not pass the limit are within it together.
 abbrev count_of : Share → ℕ
@@ -74,13 +74,13 @@ points_within c h =
 defs_within : (c : Code) → first_passed c ≡ None → defs_in_code c ≤ 4096
 defs_within c h =
     let behind = or_second LowerWhat.Points (passing point_limit (point_shares c)) _ h in
-    let within = passing_total def_limit (def_shares c) (or_first LowerWhat.Defs (passing def_limit (def_shares c)) _ behind) in
+    let within = passing_total definition_limit (def_shares c) (or_first LowerWhat.Defs (passing definition_limit (def_shares c)) _ behind) in
     omega (arith, sum_by-append count_of (map starting_in c.globals) (map defs_in c.funs), shares_of starting_in c.globals, ones c.globals, shares_of defs_in c.funs, defs_length c.funs)
 
 nodes_within : (c : Code) → first_passed c ≡ None → nodes_in_code c ≤ 16384
 nodes_within c h =
     let behind = or_second LowerWhat.Points (passing point_limit (point_shares c)) _ h in
-    let last = or_second LowerWhat.Defs (passing def_limit (def_shares c)) _ behind in
+    let last = or_second LowerWhat.Defs (passing definition_limit (def_shares c)) _ behind in
     let globals = map (global_nodes c) c.globals in
     let funs = map (fun_nodes c) c.funs in
     let sites = map (site_nodes c) c.sites in

@@ -26,7 +26,7 @@ use Rattle.tac_lower.proofs.FormFits.{IsMainBy}
 use Rattle.tac_lower.proofs.FormFunctions.{function_good, function_objects}
 use Rattle.tac_lower.proofs.FormWorlds.{drafts_get, There, objects, AllThere, sites_each, needs_each, parts_all, variables_each}
 use Rattle.tac_lower.proofs.FormShapes.{Fair}
-use Rattle.tac_lower.proofs.FormKnown.{IsBasic, int, pointer, basic}
+use Rattle.tac_lower.proofs.FormKnown.{IsBasic, int, pointer, unknown, basic}
 use Rattle.std.specs.List.{sum_by}
 use Rattle.std.proofs.lemmas.List.Sums.{sum_by-cons}
 use Rattle.c_typed.specs.IsWell as well_formed
@@ -53,6 +53,7 @@ number_of_int e None is basic = elim basic [ ]
 number_of_int e (Some (ExprType.Place t)) is basic = elim basic [ ]
 number_of_int e (Some ExprType.Null) is basic = elim basic [ ]
 number_of_int e (Some ExprType.Void) is basic = elim basic [ ]
+number_of_int e (Some ExprType.Unknown) is (unknown h) = cc
 
 pub number_small : (e : Entry) (v : Option ExprType) → IsBasic e v → e.number < 2
 number_small e (Some ExprType.Int) (int h) = omega arith
@@ -61,6 +62,7 @@ number_small e None basic = elim basic [ ]
 number_small e (Some (ExprType.Place t)) basic = elim basic [ ]
 number_small e (Some ExprType.Null) basic = elim basic [ ]
 number_small e (Some ExprType.Void) basic = elim basic [ ]
+number_small e (Some ExprType.Unknown) (unknown h) = omega arith
 
 module _ (t : Typed) (well : IsWell t) (bodies : Each (λ f. AreStmts (context_of t f) (placed (record { looped = false; branched = false }) f.body)) t.functions) where
   abbrev shape : ObjectType → ℕ

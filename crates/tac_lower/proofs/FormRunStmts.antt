@@ -141,7 +141,7 @@ level_steps a c r (Stmt-F.If line d first (Some second)) l all =
 level_steps a c r (Stmt-F.While line d body) l all = while_steps line.0 (condition a d) (stmt a body) (λ past. condition_steps a c d past l) all.0
 level_steps a c r (Stmt-F.For line start d step body) l all =
     steps_next 0 (stmt a start) (for line.0 (guard a d) (stmt a step) (stmt a body)) all.0
-    (for_steps line.0 (guard a d) (stmt a step) (stmt a body) (λ past. guard_steps a c d past l) all.1.0 all.1.1.0)
+    (for_steps line.0 (guard a d) (stmt a step) (stmt a body) (λ past. guard_steps a c d past l.0) all.1.0 all.1.1.0)
 level_steps a c r (Stmt-F.Par line bs) l all =
     branches_steps line.0 _ (subst (λ ys. AllSteps 0 (map ended ys)) (sym (branches_mapped (stmt a) line bs)) (ended_steps a bs all))
 

@@ -199,12 +199,14 @@ EnterStructs sizes n st = (k : ℕ) → k < n → Entering (get_or sizes k 0) (s
 -- a base whose struct is below that number
 abbrev pub IsBelow : ℕ → BaseType → ℕ → Type 0
 IsBelow n (BaseType.Struct k) zero = k < n
+IsBelow n BaseType.Unknown zero = ⊥
 IsBelow n base stars = Unit {0}
 
 enters_base : (sizes : List ℕ) (n : ℕ) (st : Structs) → EnterStructs sizes n st → (base : BaseType) (stars : ℕ) → IsBelow n base stars → Entering (item_words sizes base stars) (base_entry st base stars)
 enters_base sizes n st all base (suc stars) is = enters_ptr
 enters_base sizes n st all BaseType.Int zero is = enters_int
 enters_base sizes n st all (BaseType.Struct k) zero is = all k is
+enters_base sizes n st all BaseType.Unknown zero is = absurd is
 
 pub enters_object : (sizes : List ℕ) (n : ℕ) (st : Structs) → EnterStructs sizes n st → (t : ObjectType) → IsBelow n t.base t.stars → Each (λ n. 0 < n) t.lengths → words_of sizes t ≤ 24576
     → Entering (words_of sizes t) (object_entry st t)

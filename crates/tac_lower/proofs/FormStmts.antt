@@ -57,6 +57,7 @@ module _ (w : World) (c : Context) (a : Around) (names : Shaped w c a.sizes) whe
   scalar_words ExprType.Int is = tt
   scalar_words ExprType.Null is = tt
   scalar_words ExprType.Void is = tt
+  scalar_words ExprType.Unknown is = absurd is
 
   update_plan : (op : AssignOp) (s : ExprType) → HasWords a.sizes s → IsPlan (update a.sizes op s)
   update_plan AssignOp.Add (ExprType.Pointer t) has = has
@@ -200,7 +201,7 @@ module _ (w : World) (c : Context) (a : Around) (names : Shaped w c a.sizes) whe
   level_holds main r (Stmt-F.While line d body) l all = while_holds w r.branched (aims_of r) line.0 (condition a d) r (stmt a body) (condition_guard r.branched d l) all.0
   level_holds main r (Stmt-F.For line start d step body) l all =
       holds_next w r.branched (aims_of r) (stmt a start) (for line.0 (guard a d) (stmt a step) (stmt a body)) (out_holds r (Anywhere (aims_of r)) (stmt a start) all.0)
-      (for_holds w r.branched (aims_of r) line.0 (guard a d) r (stmt a step) (stmt a body) (guard_guard r.branched d l) (λ head. out_holds r (λ ends lo t. t ≡ head) (stmt a step) all.1.0) all.1.1.0)
+      (for_holds w r.branched (aims_of r) line.0 (guard a d) r (stmt a step) (stmt a body) (guard_guard r.branched d l.0) (λ head. out_holds r (λ ends lo t. t ≡ head) (stmt a step) all.1.0) all.1.1.0)
   level_holds main r (Stmt-F.Par line bs) l all = par_holds r line bs l.0 l.1 all
 
   mutual

@@ -72,6 +72,8 @@ earlier_below : (n k : ℕ) (base : BaseType) (stars : ℕ) → k ≡ n → IsEa
 earlier_below n k (BaseType.Struct j) zero e is = omega arith
 earlier_below n k (BaseType.Struct j) (suc stars) e is = tt
 earlier_below n k BaseType.Int stars e is = tt
+earlier_below n k BaseType.Unknown zero e is = is
+earlier_below n k BaseType.Unknown (suc stars) e is = tt
 
 reverse_more : {A : Type 0} (x : A) (xs : List A) → reverse (x ∷ xs) ≡ reverse xs ++ x ∷ []
 reverse_more x xs = reverse-append (x ∷ []) xs
@@ -123,6 +125,7 @@ module _ (structs : List Struct) (wells : (k : ℕ) (d : Struct) → slice_get s
   base_below BaseType.Int stars is = tt
   base_below (BaseType.Struct k) zero is = omega (arith, length-reverse structs)
   base_below (BaseType.Struct k) (suc stars) is = tt
+  base_below BaseType.Unknown stars is = absurd is
 
   -- every type that is well-formed
   pub enters_type : (t : ObjectType) → IsObject structs t → Entering (words_of (sizes_in structs) t) (entry structs t)

@@ -165,6 +165,7 @@ InternsStructs structs = (k : ℕ) → InternsEntry (structs k)
 pub base_interns : (structs : Structs) → InternsStructs structs → (base : BaseType) (stars : ℕ) → InternsEntry (base_entry structs base stars)
 base_interns structs known base (suc n) = fixed 1
 base_interns structs known BaseType.Int zero = fixed 0
+base_interns structs known BaseType.Unknown zero = fixed 0
 base_interns structs known (BaseType.Struct k) zero = known k
 
 pub object_interns : (structs : Structs) → InternsStructs structs → (t : ObjectType) → InternsEntry (object_entry structs t)

@@ -9,7 +9,7 @@ use Rattle.tac_lower.specs.declared.draft.Draft.{Draft}
 use Rattle.tac_lower.specs.declared.fault.LowerFault.{LowerFault}
 use Rattle.tac_lower.specs.declared.fault.LowerWhat.{LowerWhat}
 use Rattle.tac_lower.specs.CodeOf.{finished, funs_of, drafts_of, code_with, code_of}
-use Rattle.tac_lower.specs.Limits.{points_in, point_shares, def_shares, node_shares, passing, point_limit, def_limit, node_limit, or_else}
+use Rattle.tac_lower.specs.Limits.{points_in, point_shares, def_shares, node_shares, passing, point_limit, definition_limit, node_limit, or_else}
 use Rattle.tac_lower.specs.Lowers.{Lowers}
 use Rattle.tac_lower.specs.tools.Drafted.{AllDrafts, Drafts, draft_share, draft_shares}
 
@@ -32,7 +32,7 @@ points_within t drafts code all is =
 
 pub emitted_fault : (t : Typed) (e : LowerFault) → Drafts t (Err e) → Lowers t (Err e)
 emitted_fault t (LowerFault.Big what line) (is, passed) = λ told.
-    ap (λ o. or_else LowerWhat.Points o (or_else LowerWhat.Defs (passing def_limit (def_shares (code_of t))) (or_else LowerWhat.Nodes (passing node_limit (node_shares (code_of t))) None)))
+    ap (λ o. or_else LowerWhat.Points o (or_else LowerWhat.Defs (passing definition_limit (def_shares (code_of t))) (or_else LowerWhat.Nodes (passing node_limit (node_shares (code_of t))) None)))
     (ap (passing point_limit) (points_are t) ∙ passed)
     ∙ ap (λ w. Some (LowerFault.Big w line)) (sym is)
 emitted_fault t LowerFault.Memory h = λ told. absurd (told refl)

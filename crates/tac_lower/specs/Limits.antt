@@ -1,4 +1,5 @@
 -- Which limit a code passes, and at which line. Too many instructions are told before too many definitions or nodes.
+pub use Rattle.dfi_base.specs.Limits.{point_limit, definition_limit, node_limit}
 use Rattle.std.specs.Prelude.{ℕ, ◌-◌, nat_lt, true, false, List, [], ◌∷◌, ◌++◌, map, length, sum, Option, Some, None}
 use Rattle.tac_ir.specs.declared.code.Code.{Code}
 use Rattle.tac_ir.specs.declared.code.Fun.{Fun}
@@ -53,17 +54,8 @@ abbrev pub or_else : LowerWhat → Option ℕ → Option LowerFault → Option L
 or_else what (Some line) rest = Some (LowerFault.Big what (record { 0 = line }))
 or_else what None rest = rest
 
-abbrev pub point_limit : ℕ
-point_limit = 16384
-
-abbrev pub def_limit : ℕ
-def_limit = 4096
-
-abbrev pub node_limit : ℕ
-node_limit = 16384
-
 abbrev pub first_passed : Code → Option LowerFault
 first_passed c =
     or_else LowerWhat.Points (passing point_limit (point_shares c))
-    (or_else LowerWhat.Defs (passing def_limit (def_shares c))
+    (or_else LowerWhat.Defs (passing definition_limit (def_shares c))
     (or_else LowerWhat.Nodes (passing node_limit (node_shares c)) None))

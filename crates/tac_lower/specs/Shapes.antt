@@ -34,6 +34,7 @@ abbrev pub base_entry : Structs → BaseType → ℕ → List Shape → Entry
 base_entry structs base (suc n) shapes = record { shapes = shapes; number = 1 }
 base_entry structs BaseType.Int zero shapes = record { shapes = shapes; number = 0 }
 base_entry structs (BaseType.Struct k) zero shapes = structs k shapes
+base_entry structs BaseType.Unknown zero shapes = record { shapes = shapes; number = 0 }
 
 -- arrays of these lengths, the outermost first
 abbrev pub array_entry : List ℕ → Entry → Entry

@@ -184,7 +184,7 @@ fn add_site_nodes(shares: &mut Vec<Share>, nodes: &[u32], sites: &[Site]) -> Res
 
 /// The line with which the definitions pass their limit.
 fn defs_passing(alloc: alloc::Global, code: &Code) -> Result<Option<u32>, Memory>
-    ensures { IfOk result (λ line. line ≡ spec.passing spec.def_limit (spec.def_shares code.now)) }
+    ensures { IfOk result (λ line. line ≡ spec.passing spec.definition_limit (spec.def_shares code.now)) }
 {
     let mut shares = Vec::new(alloc);
     add_starting(&mut shares, code.globals.as_slice())?;

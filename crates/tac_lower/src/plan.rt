@@ -96,6 +96,7 @@ fn base_words(structs: &[Struct], base: BaseType) -> u32
             None => 0,
             Some(found) => found.words,
         },
+        BaseType::Unknown => 0,
     }
 }
 

@@ -92,7 +92,7 @@ impl Interner {
             return Ok(1);
         }
         match base {
-            BaseType::Int => Ok(0),
+            BaseType::Int | BaseType::Unknown => Ok(0),
             BaseType::Struct(number) => {
                 self.struct_number(alloc, structs, limit, number as usize)
             }

@@ -1,5 +1,5 @@
 -- Threads by name: what changes, what ends, what joins.
-use Rattle.std.proofs.Common.{◌≡◌, ℕ, ◌+◌, ◌*◌, ◌/◌, ◌%◌, ◌<◌, ◌≤◌, Bool, true, false, List, [], ◌∷◌, refl, sym, ap, ◌∙◌, subst, arith, Option, Some, None, cond, Result, Ok, Err, IfOk, OnOk, IsSome, ⊎_elim}
+use Rattle.std.proofs.Common.{◌≡◌, ℕ, ◌+◌, ◌*◌, ◌/◌, ◌%◌, ◌<◌, ◌≤◌, Bool, true, false, List, [], ◌∷◌, refl, sym, ap, ◌∙◌, subst, arith, Option, Some, None, cond, IsSome, ⊎_elim}
 use Rattle.std.specs.Option.{is_some}
 use Rattle.std.proofs.lemmas.Bool.{cases_eq}
 use Rattle.std.specs.Ordering.{nat_cmp}
@@ -8,7 +8,6 @@ use Rattle.std.specs.Map.{lookup, keys_of}
 use Rattle.std.specs.List.{AllByRecursion}
 use Rattle.std.specs.List.Sorted.{IsStrictlySortedBy}
 use Rattle.std.specs.declared.cmp.Ordering.TheVariants.{Less}
-use Rattle.dfi_base.specs.declared.memory.Memory.{Memory}
 use Rattle.tac_ir.specs.declared.code.Code.{Code}
 use Rattle.tac_thread.specs.declared.want.Want.{Want}
 use Rattle.tac_thread.specs.declared.want.ReplyOf.{ReplyOf}
@@ -55,12 +54,10 @@ taking m c f n reply kind =
     (l.0, runs_now.0, runs_now.1, (kind.want, l.2, kind.kind))
 
 -- what an answer makes of the thread that takes it
-pub stepped : {X T : Type 0} (m : Meaning X T) (c : Code) (s t : Threads X T) (g : Lives X T) (n : ℕ) (reply : ReplyOf X T) (l k : Life X T) (r : Result (Unit {0}) Memory)
-    → s ≡ t → Some l ≡ life_in s n → ((q : ℕ) → g q ≡ changed (life_in s) n (Some k) q) → IfOk r (λ u. RunsOn m c (answered m c l reply) k) → OnOk r (IsGuestOf m c k)
-    → IfOk r (λ u. IsStepped m c (life_in t) n reply g)
-stepped m c s t g n reply l k (Ok u) same lived changes run guest =
+pub stepped : {X T : Type 0} (m : Meaning X T) (c : Code) (s t : Threads X T) (g : Lives X T) (n : ℕ) (reply : ReplyOf X T) (l k : Life X T)
+    → s ≡ t → Some l ≡ life_in s n → ((q : ℕ) → g q ≡ changed (life_in s) n (Some k) q) → RunsOn m c (answered m c l reply) k → IsGuestOf m c k → IsStepped m c (life_in t) n reply g
+stepped m c s t g n reply l k same lived changes run guest =
     subst (λ z. IsStepped m c (life_in z) n reply g) same (record { life = l; lived = sym lived; next = k; runs = run; guest = guest; changes = changes })
-stepped m c s t g n reply l k (Err e) same lived changes run guest = tt
 
 pub went_on : {X T : Type 0} (m : Meaning X T) (c : Code) (s t : Threads X T) (g : Lives X T) (n : ℕ) (l k : Life X T)
     → s ≡ t → Some l ≡ life_in s n → ((q : ℕ) → g q ≡ changed (life_in s) n (Some k) q) → RunsOn m c (joined c l) k → IsGuestOf m c k → IsJoined m c (life_in t) n g
@@ -282,6 +279,19 @@ fed_to m c n reply f g last d e b step same rest = record {
   changes = step.changes;
   settles = subst (λ z. Settles m c n g z last b) same rest;
 }
+
+-- where it did not end, it is the only one that changed
+pub fed_here : {X T : Type 0} (m : Meaning X T) (c : Code) (n : ℕ) (reply : ReplyOf X T) (f g : Lives X T) (d e : Option X) → IsStepped m c f n reply g → e ≡ d → ended_of m c (g n) ≡ None → IsFed m c f d n reply g e
+fed_here m c n reply f g d e step same none = fed_to m c n reply f g g d e e step same (goes_on n g e none)
+
+pub settled_tree : {X T : Type 0} (m : Meaning X T) (c : Code) (n : ℕ) (g : Lives X T) → IsSettling m c n g → ended_of m c (g n) ≡ None → IsTree m c g
+settled_tree m c n g all none = record {
+  threads = all.threads;
+  going = λ k. ⊎_elim (λ (same : k ≡ n). ap (λ j. ended_of m c (g j)) same ∙ none) (λ (other : k ≡ n → ⊥). all.going k other) (cases_eq k n);
+}
+
+pub not_ended : {X T : Type 0} (m : Meaning X T) (c : Code) (n : ℕ) (f g : Lives X T) (k : Life X T) → ((q : ℕ) → g q ≡ changed f n (Some k) q) → end_in (want_of m c k) ≡ None → ended_of m c (g n) ≡ None
+not_ended m c n f g k changes none = ap (ended_of m c) (changes n ∙ changed_here f n (Some k)) ∙ none
 
 -- The least runnable name.
 

@@ -1,5 +1,6 @@
 ghost use Rattle.std.specs.Prelude.{◌≡◌, IfOk, OnErr};
 ghost use Rattle.tac_ir.specs.GoodForm.{GoodForm};
+ghost use Rattle.code_layout.specs.LayoutOf.{IsLayoutOf};
 ghost use Rattle.tac_thread.specs.Life.{instr_of, with_top, at_index};
 ghost use Rattle.tac_thread.specs.Answered.{with_value, with_none, answered_first, answered, joined};
 
@@ -7,18 +8,20 @@ use crate::domain::Domain;
 use crate::fetch::instr_at;
 use crate::guest::{Guest, Stage};
 use crate::want::{Reply, ReplyOf};
+use code_layout::Layout;
 use dfi_base::Memory;
 use tac_ir::{Code, Instr};
 
 impl<D: Domain> Guest<D> {
     // Takes an answer, without what follows in silence.
-    pub(crate) fn answer(&mut self, c: &Code, reply: Reply<D>) -> Result<(), Memory>
-        requires { GoodForm c.now }
+    pub(crate) fn answer(&mut self, c: &Code, l: &Layout, reply: Reply<D>) -> Result<(), Memory>
+        requires form { GoodForm c.now }
+        requires laid { IsLayoutOf c.now l.now }
         ensures ok { IfOk result (λ _. self.new ≡ answered D.meaning c.now self.old reply) }
         ensures err { OnErr result (self.new ≡ self.old) }
     {
         match &self.stage {
-            Stage::Ready => self.answer_first(c, reply),
+            Stage::Ready => self.answer_first(c, l, reply),
             Stage::Entering(_) => self.enter(),
             Stage::Leaving(link) => {
                 let link = *link;
@@ -29,15 +32,16 @@ impl<D: Domain> Guest<D> {
         }
     }
 
-    fn answer_first(&mut self, c: &Code, reply: Reply<D>) -> Result<(), Memory>
-        requires { GoodForm c.now }
+    fn answer_first(&mut self, c: &Code, l: &Layout, reply: Reply<D>) -> Result<(), Memory>
+        requires form { GoodForm c.now }
+        requires laid { IsLayoutOf c.now l.now }
         ensures ok { IfOk result (λ _. self.new ≡ answered_first D.meaning c.now self.old (instr_of c.now self.old.top) reply) }
         ensures err { OnErr result (self.new ≡ self.old) }
     {
         match reply {
             ReplyOf::Unit => self.take_none(c),
             ReplyOf::Value(value) => self.take_value(c, value),
-            ReplyOf::Stack(stack) => return self.take_stack(c, stack),
+            ReplyOf::Stack(stack) => return self.take_stack(c, l, stack),
         }
         Ok(())
     }

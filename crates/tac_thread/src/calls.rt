@@ -1,5 +1,6 @@
 ghost use Rattle.std.specs.Prelude.{◌≡◌, ◌<◌, ◌++◌, ◌∷◌, [], length, vec_capacity, IfOk, OnErr};
 ghost use Rattle.tac_ir.specs.GoodForm.{GoodForm};
+ghost use Rattle.code_layout.specs.LayoutOf.{IsLayoutOf};
 ghost use Rattle.tac_thread.specs.Life.{instr_of};
 ghost use Rattle.tac_thread.specs.Answered.{with_stack, entered_stage, returns, resumed, back_at};
 
@@ -9,14 +10,16 @@ use crate::fetch::instr_at;
 use crate::guest::{Activation, Guest, Stage};
 use crate::resume::resumed_at;
 use crate::temps::{arguments, temps_from};
+use code_layout::Layout;
 use dfi_base::Memory;
 use std::mem;
 use tac_ir::{Code, Instr};
 
 impl<D: Domain> Guest<D> {
     /// Takes the stack of the function that is called.
-    pub(crate) fn take_stack(&mut self, c: &Code, stack: D::Stack) -> Result<(), Memory>
-        requires { GoodForm c.now }
+    pub(crate) fn take_stack(&mut self, c: &Code, l: &Layout, stack: D::Stack) -> Result<(), Memory>
+        requires form { GoodForm c.now }
+        requires laid { IsLayoutOf c.now l.now }
         ensures ok { IfOk result (λ _. self.new ≡ with_stack D.meaning c.now self.old stack (instr_of c.now self.old.top)) }
         ensures err { OnErr result (self.new ≡ self.old) }
     {
@@ -24,7 +27,7 @@ impl<D: Domain> Guest<D> {
             return Ok(());
         };
         let values = arguments::<D>(self.alloc, &self.top, args.as_slice())?;
-        let temps = temps_from::<D>(c, *fun, values)?;
+        let temps = temps_from::<D>(l, *fun, values)?;
         let callee = Activation {
             fun: *fun,
             at: 0,

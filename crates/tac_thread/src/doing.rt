@@ -1,6 +1,7 @@
 ghost use Rattle.std.specs.Prelude.{◌≡◌, ◌<◌, IsTrue};
 ghost use Rattle.tac_ir.specs.Effect.{divides};
 ghost use Rattle.tac_ir.specs.GoodForm.{GoodForm, NamesExist};
+ghost use Rattle.code_layout.specs.LayoutOf.{IsLayoutOf};
 ghost use Rattle.tac_thread.specs.Life.{temp, instr_of};
 ghost use Rattle.tac_thread.specs.tools.Numbered.{is_numbered};
 ghost use Rattle.tac_thread.specs.Guests.{IsFramed};
@@ -10,6 +11,7 @@ use crate::domain::Domain;
 use crate::fetch::instr_at;
 use crate::guest::Activation;
 use crate::want::Want;
+use code_layout::Layout;
 use dfi_base::{DefNo, ReadNo};
 use tac_ir::{BinOp, Code, Instr};
 
@@ -33,25 +35,32 @@ pub fn temp<D: Domain>(a: &Activation<D::Value, D::Stack>, t: u32) -> D::Value
 }
 
 /// What an activation does at its instruction, of which nothing is done yet.
-pub fn doing_at<D: Domain>(c: &Code, a: &Activation<D::Value, D::Stack>) -> Doing<D::Value>
+pub fn doing_at<D: Domain>(
+    c: &Code,
+    l: &Layout,
+    a: &Activation<D::Value, D::Stack>,
+) -> Doing<D::Value>
     requires form { GoodForm c.now }
+    requires laid { IsLayoutOf c.now l.now }
     requires frame { IsFramed D.meaning c.now a.now }
     ensures doing { result ≡ doing D.meaning c.now a.now (instr_of c.now a.now) }
     ensures within { IsWithin a.now.at result }
 {
     match instr_at(c, a.fun, a.at) {
         None => Doing::Asks(Want::Ended(None)),
-        Some(instr) => next_doing::<D>(c, a, instr),
+        Some(instr) => next_doing::<D>(c, l, a, instr),
     }
 }
 
 /// What an instruction does, of which nothing is done yet.
 fn next_doing<D: Domain>(
     c: &Code,
+    l: &Layout,
     a: &Activation<D::Value, D::Stack>,
     instr: &Instr,
 ) -> Doing<D::Value>
     requires form { GoodForm c.now }
+    requires laid { IsLayoutOf c.now l.now }
     requires frame { IsFramed D.meaning c.now a.now }
     requires names { NamesExist c.now a.now.fun instr.now }
     requires numbers { IsTrue (is_numbered instr.now) }
@@ -75,13 +84,13 @@ fn next_doing<D: Domain>(
         ),
         Instr::Addr { to, place } => Doing::Gives {
             to: *to,
-            value: D::place(c, a.fun, &a.stack, place),
+            value: D::place(c, l, a.fun, &a.stack, place),
         },
         Instr::Field { to, a: x, shape, k } => given(
             *to,
-            D::field(c, &temp::<D>(a, *x), *shape, *k),
+            D::field(c, l, &temp::<D>(a, *x), *shape, *k),
         ),
-        Instr::Decay { to, a: x, shape } => given(*to, D::decay(c, &temp::<D>(a, *x), *shape)),
+        Instr::Decay { to, a: x, shape } => given(*to, D::decay(c, l, &temp::<D>(a, *x), *shape)),
         Instr::Index {
             to,
             a: x,
@@ -90,7 +99,7 @@ fn next_doing<D: Domain>(
         } => { given(*to, D::index(&temp::<D>(a, *x), &temp::<D>(a, *y), *words)) }
         Instr::Get { place, read, .. } => Doing::Asks(Want::Read {
             read: ReadNo(*read as u16),
-            word: D::place(c, a.fun, &a.stack, place),
+            word: D::place(c, l, a.fun, &a.stack, place),
         }),
         Instr::Load { a: x, read, .. } => Doing::Asks(Want::Read {
             read: ReadNo(*read as u16),
@@ -98,7 +107,7 @@ fn next_doing<D: Domain>(
         }),
         Instr::Set { place, a: x, def } => Doing::Asks(Want::Write {
             def: DefNo(*def as u16),
-            word: D::place(c, a.fun, &a.stack, place),
+            word: D::place(c, l, a.fun, &a.stack, place),
             value: temp::<D>(a, *x),
         }),
         Instr::Store { a: x, b: y, def } => Doing::Asks(Want::Write {

@@ -2,8 +2,10 @@ ghost use Rattle.std.specs.Prelude.{◌≡◌, ◌<◌, ◌≤◌, length, false
 ghost use Rattle.tac_ir.specs.GoodForm.{GoodForm};
 ghost use Rattle.tac_ir.specs.Places.{IsPlace, is_array};
 ghost use Rattle.tac_ir.specs.Layout.{parts_of};
+ghost use Rattle.code_layout.specs.LayoutOf.{IsLayoutOf};
 ghost use Rattle.tac_thread.specs.Meaning.{Meaning, divides_by_zero};
 
+use code_layout::Layout;
 use obj_mem::Maker;
 use tac_ir::{BinOp, Code, Place, UnOp};
 
@@ -32,27 +34,31 @@ pub trait Domain {
         requires { divides_by_zero meaning op b.now ≡ false }
         ensures { result ≡ meaning.bin op a.now b.now };
 
-    fn place(c: &Code, fun: u32, s: &Self::Stack, p: &Place) -> Self::Value
+    fn place(c: &Code, l: &Layout, fun: u32, s: &Self::Stack, p: &Place) -> Self::Value
         requires form { GoodForm c.now }
+        requires laid { IsLayoutOf c.now l.now }
         requires place { IsPlace c.now fun p.now }
         requires frame { IsTrue (meaning.has_frame c.now fun s.now) }
         ensures { result ≡ meaning.place c.now fun s.now p.now };
 
-    fn field(c: &Code, a: &Self::Value, shape: u32, k: u32) -> Option<Self::Value>
+    fn field(c: &Code, l: &Layout, a: &Self::Value, shape: u32, k: u32) -> Option<Self::Value>
         requires form { GoodForm c.now }
+        requires laid { IsLayoutOf c.now l.now }
         requires part { k < length (parts_of c.now shape) }
         ensures { result ≡ meaning.field c.now a.now shape k };
 
-    fn decay(c: &Code, a: &Self::Value, shape: u32) -> Option<Self::Value>
+    fn decay(c: &Code, l: &Layout, a: &Self::Value, shape: u32) -> Option<Self::Value>
         requires form { GoodForm c.now }
+        requires laid { IsLayoutOf c.now l.now }
         requires array { is_array c.now shape ≡ true }
         ensures { result ≡ meaning.decay c.now a.now shape };
 
     fn index(a: &Self::Value, i: &Self::Value, w: u32) -> Option<Self::Value>
         ensures { result ≡ meaning.index a.now i.now w };
 
-    fn enter(c: &Code, s: &Self::Stack, fun: u32, maker: Maker) -> Option<Self::Stack>
+    fn enter(c: &Code, l: &Layout, s: &Self::Stack, fun: u32, maker: Maker) -> Option<Self::Stack>
         requires form { GoodForm c.now }
+        requires laid { IsLayoutOf c.now l.now }
         requires exists { fun < length c.now.funs }
         ensures { result ≡ meaning.enter c.now s.now fun maker };
 

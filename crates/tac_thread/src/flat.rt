@@ -4,7 +4,7 @@ ghost use Rattle.tac_ir.specs.Words.{un_of, bin_of};
 ghost use Rattle.tac_thread.specs.Flat.{with_frame, with_share};
 
 use crate::domain::Domain;
-use crate::sizes::{field_offset, frame_words, place_word};
+use code_layout::Layout;
 use obj_mem::Maker;
 use tac_ir::{BinOp, Code, Place, UnOp};
 
@@ -48,17 +48,17 @@ impl Domain for FlatWords {
         Some(bin_word(op, *a, *b))
     }
 
-    fn place(c: &Code, fun: u32, s: &FlatStack, p: &Place) -> u32 {
+    fn place(c: &Code, l: &Layout, fun: u32, s: &FlatStack, p: &Place) -> u32 {
         // The frame ends before the top, so within 32 bits.
         let _top = s.top;
-        place_word(c, fun, s.base, p)
+        l.place_word(c, fun, s.base, p)
     }
 
-    fn field(c: &Code, a: &u32, shape: u32, k: u32) -> Option<u32> {
-        Some(a.wrapping_add(field_offset(c, shape, k)))
+    fn field(_c: &Code, l: &Layout, a: &u32, shape: u32, k: u32) -> Option<u32> {
+        Some(a.wrapping_add(l.field_offset(shape, k)))
     }
 
-    fn decay(_c: &Code, a: &u32, _shape: u32) -> Option<u32> {
+    fn decay(_c: &Code, _l: &Layout, a: &u32, _shape: u32) -> Option<u32> {
         Some(*a)
     }
 
@@ -66,8 +66,8 @@ impl Domain for FlatWords {
         Some(a.wrapping_add(i.wrapping_mul(w)))
     }
 
-    fn enter(c: &Code, s: &FlatStack, fun: u32, _maker: Maker) -> Option<FlatStack> {
-        with_frame(frame_words(c, fun), s)
+    fn enter(_c: &Code, l: &Layout, s: &FlatStack, fun: u32, _maker: Maker) -> Option<FlatStack> {
+        with_frame(l.frame_words(fun), s)
     }
 
     fn share(s: &FlatStack, n: u32, i: u32) -> Option<FlatStack> {

@@ -1,5 +1,6 @@
 ghost use Rattle.std.specs.Prelude.{◌≡◌, ℕ, ◌+◌, ◌*◌, ◌<◌, ◌≤◌, ◌^◌, None, IsSome, IfOk, OnErr};
 ghost use Rattle.tac_ir.specs.GoodForm.{GoodForm};
+ghost use Rattle.code_layout.specs.LayoutOf.{IsLayoutOf};
 ghost use Rattle.tac_thread.specs.Threads.{life_in, with_branch, planted, IsTree, IsStuck, TakesStacks, IsSame, Resumes};
 ghost use Rattle.tac_thread.specs.Guests.{IsGuestOf};
 ghost use Rattle.tac_thread.specs.tools.Settling.{IsWaiting, ArePlantable, IsFreeFor, IsApart};
@@ -7,6 +8,7 @@ ghost use Rattle.tac_thread.specs.tools.Settling.{IsWaiting, ArePlantable, IsFre
 use crate::domain::Domain;
 use crate::guest::Guest;
 use crate::tree::{Tree, ended};
+use code_layout::Layout;
 use dfi_base::Memory;
 use std::collections::VecDeque;
 use tac_ir::Code;
@@ -16,10 +18,12 @@ impl<D: Domain> Tree<D> {
     pub(crate) fn branches(
         &self,
         c: &Code,
+        l: &Layout,
         name: u64,
         s: &[D::Stack],
     ) -> Result<VecDeque<Guest<D>>, Memory>
         requires form { GoodForm c.now }
+        requires laid { IsLayoutOf c.now l.now }
         requires tree { IsTree D.meaning c.now (life_in self.now) }
         requires kind { TakesStacks D.meaning c.now (life_in self.now) name s.now }
         ensures { IfOk result (λ v. ArePlantable D.meaning c.now (life_in self.now name) s.now v.items) }
@@ -31,7 +35,7 @@ impl<D: Domain> Tree<D> {
         let mut i = 0;
         for stack in s {
             i += 1;
-            let branch = guest.branch(self.alloc, c, i, *stack)?;
+            let branch = guest.branch(self.alloc, c, l, i, *stack)?;
             branches.push_back(branch)?;
         }
         Ok(branches)
@@ -41,10 +45,12 @@ impl<D: Domain> Tree<D> {
     pub(crate) fn plant(
         &mut self,
         c: &Code,
+        l: &Layout,
         name: u64,
         branches: VecDeque<Guest<D>>,
     ) -> Result<(), Memory>
         requires form { GoodForm c.now }
+        requires laid { IsLayoutOf c.now l.now }
         requires small { name < 2 ^ 56 }
         requires free { IsFreeFor D.meaning c.now (life_in self.old) name branches.items }
         ensures planted { IfOk result (λ _. (k : ℕ)
@@ -55,7 +61,7 @@ impl<D: Domain> Tree<D> {
         let mut rest = branches;
         let mut i = 1;
         while let Some(guest) = rest.pop_front() {
-            if let Err(fault) = self.plant_one(c, 16 * name + i, guest) {
+            if let Err(fault) = self.plant_one(c, l, 16 * name + i, guest) {
                 self.uproot(name);
                 return Err(fault);
             }
@@ -65,15 +71,16 @@ impl<D: Domain> Tree<D> {
     }
 
     // Lets a branch live where it has not ended.
-    fn plant_one(&mut self, c: &Code, name: u64, branch: Guest<D>) -> Result<(), Memory>
+    fn plant_one(&mut self, c: &Code, l: &Layout, name: u64, branch: Guest<D>) -> Result<(), Memory>
         requires form { GoodForm c.now }
+        requires laid { IsLayoutOf c.now l.now }
         requires guest { IsGuestOf D.meaning c.now branch }
         ensures ok { IfOk result (λ _. (k : ℕ)
             → life_in self.new k ≡ with_branch D.meaning c.now (life_in self.old) name branch k) }
         ensures done { self.new.done ≡ self.old.done }
         ensures err { OnErr result (IsSame self.old self.new) }
     {
-        if ended(branch.want(c)).is_none() {
+        if ended(branch.want(c, l)).is_none() {
             self.guests.insert(name, branch)?;
         }
         Ok(())
@@ -103,8 +110,9 @@ impl<D: Domain> Tree<D> {
     }
 
     // Lets a thread go on whose branches have all ended.
-    pub(crate) fn resume(&mut self, c: &Code, name: u64)
+    pub(crate) fn resume(&mut self, c: &Code, l: &Layout, name: u64)
         requires form { GoodForm c.now }
+        requires laid { IsLayoutOf c.now l.now }
         requires small { name < 2 ^ 56 }
         requires tree { IsTree D.meaning c.now (life_in self.old) }
         requires waits { IsWaiting D.meaning c.now (life_in self.old name) }
@@ -114,7 +122,7 @@ impl<D: Domain> Tree<D> {
         if self.has_branch(name) {
             return;
         }
-        self.join(c, name);
-        self.settle(c, name);
+        self.join(c, l, name);
+        self.settle(c, l, name);
     }
 }

@@ -4,6 +4,7 @@
 
 mod answer;
 mod calls;
+mod deep;
 mod doing;
 mod domain;
 mod fetch;
@@ -13,12 +14,11 @@ mod guest;
 mod law;
 mod resume;
 mod run;
-mod shapes;
-mod sizes;
 mod temps;
 mod tree;
 mod want;
 
+pub use deep::is_deep;
 pub use domain::Domain;
 pub use flat::{FlatStack, FlatWords};
 pub use guest::Guest;

@@ -1,6 +1,7 @@
 ghost use Rattle.std.specs.Prelude.{◌≡◌, ◌≤◌, false, IsTrue};
 ghost use Rattle.std.specs.Option.{option_copied};
 ghost use Rattle.tac_ir.specs.GoodForm.{GoodForm};
+ghost use Rattle.code_layout.specs.LayoutOf.{IsLayoutOf};
 ghost use Rattle.tac_thread.specs.tools.Numbered.{is_numbered};
 ghost use Rattle.tac_thread.specs.tools.Fetched.{found_or_end};
 ghost use Rattle.tac_thread.specs.Life.{instr_of};
@@ -14,18 +15,20 @@ use crate::domain::Domain;
 use crate::fetch::instr_at;
 use crate::guest::{Guest, Stage};
 use crate::want::Want;
+use code_layout::Layout;
 use dfi_base::DefNo;
 use tac_ir::{Code, Instr};
 
 impl<D: Domain> Guest<D> {
     // The next event, where the thread rests before one.
-    pub(crate) fn pending(&self, c: &Code) -> Option<Want<D::Value>>
+    pub(crate) fn pending(&self, c: &Code, l: &Layout) -> Option<Want<D::Value>>
         requires form { GoodForm c.now }
+        requires laid { IsLayoutOf c.now l.now }
         requires held { IsHeld D.meaning c.now self.now }
         ensures { result ≡ want_of D.meaning c.now self.now }
     {
         match &self.stage {
-            Stage::Ready => asked(doing_at::<D>(c, &self.top)),
+            Stage::Ready => asked(doing_at::<D>(c, l, &self.top)),
             Stage::Entering(callee) => {
                 link_write(
                     instr_at(c, self.top.fun, self.top.at),
@@ -38,8 +41,9 @@ impl<D: Domain> Guest<D> {
     }
 
     // Does one silent instruction, where the thread stands at one.
-    fn step(&mut self, c: &Code) -> bool
+    fn step(&mut self, c: &Code, l: &Layout) -> bool
         requires form { GoodForm c.now }
+        requires laid { IsLayoutOf c.now l.now }
         requires held { IsHeld D.meaning c.now self.old }
         ensures held { IsHeld D.meaning c.now self.new }
         ensures step { silent_next D.meaning c.now self.old ≡ stepped result self.new }
@@ -49,7 +53,7 @@ impl<D: Domain> Guest<D> {
             Stage::Ready => {}
             _ => return false,
         }
-        match doing_at::<D>(c, &self.top) {
+        match doing_at::<D>(c, l, &self.top) {
             Doing::Gives { to, value } => {
                 self.top.set(to, value);
                 self.top.at += 1;
@@ -79,13 +83,14 @@ impl<D: Domain> Guest<D> {
     }
 
     // Runs on over silent instructions to the next event.
-    pub(crate) fn run_on(&mut self, c: &Code)
+    pub(crate) fn run_on(&mut self, c: &Code, l: &Layout)
         requires form { GoodForm c.now }
+        requires laid { IsLayoutOf c.now l.now }
         requires held { IsHeld D.meaning c.now self.old }
         ensures held { IsHeld D.meaning c.now self.new }
         ensures runs { RunsOn D.meaning c.now self.old self.new }
     {
-        while self.step(c) {}
+        while self.step(c, l) {}
     }
 }
 

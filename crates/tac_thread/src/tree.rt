@@ -4,12 +4,15 @@ ghost use Rattle.tac_ir.specs.GoodForm.{GoodForm};
 ghost use Rattle.std.specs.Ordering.{nat_cmp};
 ghost use Rattle.std.specs.Map.{keys_of};
 ghost use Rattle.std.specs.List.Sorted.{IsStrictlySortedBy};
+ghost use Rattle.code_layout.specs.LayoutOf.{IsLayoutOf};
 ghost use Rattle.tac_thread.specs.tools.Settling.{first_running, IsStepped, IsSettling, IsClosed, IsWaiting, IsJoined};
 ghost use Rattle.tac_thread.specs.Threads.{life_in, running, next_in, IsLeastOf, name_number, point_of, stack_of, end_in, ended_of, main_value, changed, HasBranch, Settles, IsFed, IsBegun, Forks, TakesStacks, AreGuests, IsTree, Takes, IsSame};
 
+use crate::deep::is_deep;
 use crate::domain::Domain;
 use crate::guest::Guest;
 use crate::want::{Reply, Want};
+use code_layout::Layout;
 use dfi_base::{Memory, Name, Point};
 use std::alloc::Global;
 use std::collections::BTreeMap;
@@ -32,18 +35,16 @@ impl<D: Domain> Model for Tree<D> {
     ghost view = { λ t. record { lives = t.guests.entries; done = t.done } };
 }
 
-// From this name on a thread is 14 deep.
-const DEEP: u64 = 1 << 56;
-
 impl<D: Domain> Tree<D> {
     /// Thread 1 alone, up to its first event.
-    pub fn new(alloc: Global, c: &Code, s: D::Stack) -> Result<Tree<D>, Memory>
+    pub fn new(alloc: Global, c: &Code, l: &Layout, s: D::Stack) -> Result<Tree<D>, Memory>
         requires form { GoodForm c.now }
+        requires laid { IsLayoutOf c.now l.now }
         requires frame { IsTrue (D.meaning.has_frame c.now c.now.main s) }
         ensures begun { IfOk result (λ t. IsBegun D.meaning c.now s (life_in t) t.done) }
         ensures tree { IfOk result (λ t. IsTree D.meaning c.now (life_in t)) }
     {
-        let root = Guest::root(alloc, c, s)?;
+        let root = Guest::root(alloc, c, l, s)?;
         let mut guests = BTreeMap::new(alloc);
         guests.insert(1, root)?;
         let mut tree = Tree {
@@ -51,19 +52,35 @@ impl<D: Domain> Tree<D> {
             guests,
             done: None,
         };
-        tree.settle(c, 1);
+        tree.settle(c, l, 1);
         Ok(tree)
     }
 
     /// What a runnable thread wants next; none exactly where the name is not runnable.
-    pub fn next(&self, c: &Code, name: Name) -> Option<Want<D::Value>>
+    pub fn next(&self, c: &Code, l: &Layout, name: Name) -> Option<Want<D::Value>>
         requires form { GoodForm c.now }
+        requires laid { IsLayoutOf c.now l.now }
         requires tree { IsTree D.meaning c.now (life_in self.now) }
         ensures { result ≡ next_in D.meaning c.now (life_in self.now) name.0 }
     {
         match self.running(name) {
             None => None,
-            Some(guest) => Some(guest.want(c)),
+            Some(guest) => Some(guest.want(c, l)),
+        }
+    }
+
+    /// A runnable thread: what it wants next, where it stands, and its stack, by one look-up.
+    pub fn running(&self, name: Name) -> Option<&Guest<D>>
+        ensures { option_copied result ≡ running (life_in self.now name.0) }
+    {
+        match self.guests.get(&name.0) {
+            None => None,
+            Some(guest) => {
+                if guest.is_waiting() {
+                    return None;
+                }
+                Some(guest)
+            }
         }
     }
 
@@ -114,93 +131,94 @@ impl<D: Domain> Tree<D> {
         None
     }
 
-    // The guest of a runnable thread.
-    fn running(&self, name: Name) -> Option<&Guest<D>>
-        ensures { option_copied result ≡ running (life_in self.now name.0) }
-    {
-        match self.guests.get(&name.0) {
-            None => None,
-            Some(guest) => {
-                if guest.is_waiting() {
-                    return None;
-                }
-                Some(guest)
-            }
-        }
-    }
-
     /// Takes the answer of a thread's next event, and runs on. A thread that has ended lives no more, and where it was
     /// the last branch of its parent, that goes on.
-    pub fn feed(&mut self, c: &Code, name: Name, reply: Reply<D>) -> Result<(), Memory>
+    pub fn feed(&mut self, c: &Code, l: &Layout, name: Name, reply: Reply<D>) -> Result<(), Memory>
         requires form { GoodForm c.now }
+        requires laid { IsLayoutOf c.now l.now }
         requires tree { IsTree D.meaning c.now (life_in self.old) }
         requires kind { Takes D.meaning c.now (life_in self.old) name.0 reply }
         ensures fed { IfOk result (λ _. IsFed D.meaning c.now (life_in self.old) self.old.done name.0 reply (life_in self.new) self.new.done) }
         ensures tree { OnOk result (IsTree D.meaning c.now (life_in self.new)) }
         ensures err { OnErr result (IsSame self.old self.new) }
     {
-        self.feed_guest(c, name.0, reply)?;
-        self.settle(c, name.0);
+        let may_have_ended = self.feed_guest(c, l, name.0, reply)?;
+        if !may_have_ended {
+            return Ok(());
+        }
+        self.settle(c, l, name.0);
         Ok(())
     }
 
     /// Forks a thread into branches with these stacks. Where none of them lives on, the thread goes on at the join.
-    pub fn fork(&mut self, c: &Code, name: Name, s: &[D::Stack]) -> Result<(), Memory>
+    pub fn fork(&mut self, c: &Code, l: &Layout, name: Name, s: &[D::Stack]) -> Result<(), Memory>
         requires form { GoodForm c.now }
+        requires laid { IsLayoutOf c.now l.now }
         requires tree { IsTree D.meaning c.now (life_in self.old) }
         requires kind { TakesStacks D.meaning c.now (life_in self.old) name.0 s.now }
         ensures forks { IfOk result (λ _. Forks D.meaning c.now (life_in self.old) self.old.done name.0 s.now (life_in self.new) self.new.done) }
         ensures tree { OnOk result (IsTree D.meaning c.now (life_in self.new)) }
         ensures err { OnErr result (IsSame self.old self.new) }
     {
-        if name.0 >= DEEP {
+        if is_deep(name) {
             self.wait(name.0);
             return Ok(());
         }
-        let branches = self.branches(c, name.0, s)?;
-        self.plant(c, name.0, branches)?;
+        let branches = self.branches(c, l, name.0, s)?;
+        self.plant(c, l, name.0, branches)?;
         self.wait(name.0);
-        self.resume(c, name.0);
+        self.resume(c, l, name.0);
         Ok(())
     }
 
-    // Lets a thread take an answer and run on.
-    fn feed_guest(&mut self, c: &Code, name: u64, reply: Reply<D>) -> Result<(), Memory>
+    // Lets a thread take an answer and run on. Whether it may have ended.
+    fn feed_guest(
+        &mut self,
+        c: &Code,
+        l: &Layout,
+        name: u64,
+        reply: Reply<D>,
+    ) -> Result<bool, Memory>
         requires form { GoodForm c.now }
+        requires laid { IsLayoutOf c.now l.now }
         requires threads { AreGuests D.meaning c.now (life_in self.old) }
         requires kind { Takes D.meaning c.now (life_in self.old) name reply }
         ensures fed { IfOk result (λ _. IsStepped D.meaning c.now (life_in self.old) name reply (life_in self.new)) }
+        ensures ended { IfOk result (λ ended. ended ≡ false → ended_of D.meaning c.now (life_in self.new name) ≡ None) }
         ensures done { self.new.done ≡ self.old.done }
         ensures err { OnErr result (IsSame self.old self.new) }
     {
         let Some(guest) = self.guests.get_mut(&name) else {
-            return Ok(());
+            return Ok(false);
         };
-        guest.feed(c, reply)
+        guest.feed(c, l, reply)?;
+        Ok(guest.may_have_ended(c))
     }
 
     // Lets a thread that has ended live no more, and its parent go on after the last branch, and so on.
-    pub(crate) fn settle(&mut self, c: &Code, name: u64)
+    pub(crate) fn settle(&mut self, c: &Code, l: &Layout, name: u64)
         requires form { GoodForm c.now }
+        requires laid { IsLayoutOf c.now l.now }
         requires threads { IsSettling D.meaning c.now name (life_in self.old) }
         ensures settles { Settles D.meaning c.now name (life_in self.old) self.old.done (life_in self.new) self.new.done }
         ensures tree { IsTree D.meaning c.now (life_in self.new) }
     {
         let mut here = name;
-        while self.close(c, here) {
+        while self.close(c, l, here) {
             here /= 16;
         }
     }
 
     // Does so for one thread. Whether its parent goes on.
-    fn close(&mut self, c: &Code, name: u64) -> bool
+    fn close(&mut self, c: &Code, l: &Layout, name: u64) -> bool
         requires form { GoodForm c.now }
+        requires laid { IsLayoutOf c.now l.now }
         requires threads { IsSettling D.meaning c.now name (life_in self.old) }
         ensures goes_on { result ≡ true → IsClosed D.meaning c.now name (life_in self.old) self.old.done (life_in self.new) self.new.done }
         ensures stops { result ≡ false → Settles D.meaning c.now name (life_in self.old) self.old.done (life_in self.new) self.new.done }
         ensures tree { result ≡ false → IsTree D.meaning c.now (life_in self.new) }
     {
-        let value = match self.ended(c, name) {
+        let value = match self.ended(c, l, name) {
             None => return false,
             Some(value) => value,
         };
@@ -212,7 +230,7 @@ impl<D: Domain> Tree<D> {
         if self.has_branch(name / 16) {
             return false;
         }
-        self.join(c, name / 16);
+        self.join(c, l, name / 16);
         true
     }
 
@@ -225,20 +243,22 @@ impl<D: Domain> Tree<D> {
     }
 
     // What a thread has ended with.
-    fn ended(&self, c: &Code, name: u64) -> Option<Option<D::Value>>
+    fn ended(&self, c: &Code, l: &Layout, name: u64) -> Option<Option<D::Value>>
         requires form { GoodForm c.now }
+        requires laid { IsLayoutOf c.now l.now }
         requires threads { AreGuests D.meaning c.now (life_in self.now) }
         ensures { result ≡ ended_of D.meaning c.now (life_in self.now name) }
     {
         match self.guests.get(&name) {
             None => None,
-            Some(guest) => ended(guest.want(c)),
+            Some(guest) => ended(guest.want(c, l)),
         }
     }
 
     // Lets a thread go on whose branches have all ended.
-    pub(crate) fn join(&mut self, c: &Code, name: u64)
+    pub(crate) fn join(&mut self, c: &Code, l: &Layout, name: u64)
         requires form { GoodForm c.now }
+        requires laid { IsLayoutOf c.now l.now }
         requires waits { IsWaiting D.meaning c.now (life_in self.old name) }
         ensures joined { IsJoined D.meaning c.now (life_in self.old) name (life_in self.new) }
         ensures done { self.new.done ≡ self.old.done }
@@ -246,7 +266,7 @@ impl<D: Domain> Tree<D> {
         let Some(guest) = self.guests.get_mut(&name) else {
             return;
         };
-        guest.joined(c);
+        guest.joined(c, l);
     }
 
     // Whether a branch of the thread lives.

@@ -3,15 +3,17 @@
 #![tactic(auto)]
 
 mod halt;
+mod journal;
 mod row;
 mod rows;
 mod sample;
 mod text;
+mod written;
 
 use crate::halt::Halt;
 use crate::row::Row;
-use crate::rows::{forks, limits, orders, overruns, stores, traps};
-use crate::text::text_of;
+use crate::rows::{forks, limits, orders, overruns, stores, traps, written as by_hand};
+use crate::text::{text_of, written_text};
 use std::io;
 use std::io::Write;
 use std::process::ExitCode;
@@ -35,13 +37,23 @@ fn print_rows<R: Print + AllocGlobal>(rt: &R, rows: &[Row]) -> Result<(), Halt> 
     Ok(())
 }
 
+// The texts of journals that no run made.
+fn print_written<R: Print + AllocGlobal>(rt: &R) -> Result<(), Halt> {
+    for written in by_hand::rows() {
+        let text = written_text(rt.alloc(), written)?;
+        io::writer(rt).write_all(&text)?;
+    }
+    Ok(())
+}
+
 fn print_table<R: Print + AllocGlobal>(rt: &R) -> Result<(), Halt> {
     print_rows(rt, overruns::rows())?;
     print_rows(rt, orders::rows())?;
     print_rows(rt, forks::rows())?;
     print_rows(rt, traps::rows())?;
     print_rows(rt, limits::rows())?;
-    print_rows(rt, stores::rows())
+    print_rows(rt, stores::rows())?;
+    print_written(rt)
 }
 
 fn main(rt: HostRuntime) -> ExitCode {

@@ -4,3 +4,4 @@ pub mod orders;
 pub mod overruns;
 pub mod stores;
 pub mod traps;
+pub mod written;

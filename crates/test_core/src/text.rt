@@ -3,7 +3,9 @@ ghost use Rattle.word_table.specs.Tables.{CanRun};
 ghost use Rattle.flat_core.specs.Runs.{IsShort};
 
 use crate::halt::Halt;
+use crate::journal::Written;
 use crate::row::Row;
+use crate::written::written_module;
 use alarm_report::report;
 use dfi_base::{Memory, Name};
 use flat_core::{RunFault, Turns, run};
@@ -18,6 +20,16 @@ pub fn text_of(alloc: Global, row: &Row) -> Result<Vec<u8>, Halt> {
     let title = row.title;
     let mut text = format!(in alloc; "-- {title}\n")?.into_bytes();
     text.extend_from_slice(&told_by(alloc, row)?)?;
+    Ok(text)
+}
+
+/// The title of a journal that is written by hand, and its text.
+pub fn written_text(alloc: Global, written: &Written) -> Result<Vec<u8>, Halt> {
+    let title = written.title;
+    let mut text = format!(in alloc; "-- {title}\n")?.into_bytes();
+    let module = written_module(alloc)?;
+    let journal = written.journal(alloc)?;
+    text.extend_from_slice(&report(alloc, &module, &journal)?)?;
     Ok(text)
 }
 

@@ -4,6 +4,7 @@ use dfi_base::Memory;
 use dfi_io::{Pad, Shelf};
 use dfi_top::front;
 use std::alloc::Global;
+use test_base::{Halt, Orders};
 
 /// More bytes than any text of the table has.
 const ROOM: u64 = 1_048_576;
@@ -40,8 +41,8 @@ impl Bench {
         }
     }
 
-    /// Takes one line of the table, and gives what it prints.
-    pub fn take_line(&mut self, line: &str) -> Result<Vec<u8>, Memory> {
+    // What a line of the table prints.
+    fn answer(&mut self, line: &str) -> Result<Vec<u8>, Memory> {
         let Some(file) = self.file.take() else {
             return self.take_order(line);
         };
@@ -126,5 +127,11 @@ impl Bench {
         let text = tell_call(self.alloc, self.pad.bytes(), shown, &ended)?;
         self.pad = Pad::new(self.alloc);
         Ok(text)
+    }
+}
+
+impl Orders for Bench {
+    fn take_line(&mut self, _: Global, line: &str) -> Result<Vec<u8>, Halt> {
+        Ok(self.answer(line)?)
     }
 }

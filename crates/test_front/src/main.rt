@@ -19,47 +19,10 @@ mod file;
 mod told;
 
 use crate::bench::Bench;
-use dfi_base::Memory;
-use std::io;
-use std::io::Write;
 use std::process::ExitCode;
-
-const DEVICE_FAILED: u8 = 1;
-
-const NO_MEMORY: u8 = 8;
-
-// Why the table was not run to its end.
-#[derive(Clone, Copy)]
-enum Halt {
-    Device,
-    Memory,
-}
-
-impl From<Memory> for Halt {
-    fn from(_: Memory) -> Halt {
-        Halt::Memory
-    }
-}
-
-impl From<io::Error> for Halt {
-    fn from(_: io::Error) -> Halt {
-        Halt::Device
-    }
-}
-
-fn run_table<R: Input + Print + AllocGlobal>(rt: &R) -> Result<(), Halt> {
-    let mut bench = Bench::new(rt.alloc());
-    for line in rt.lines(rt.alloc()) {
-        let text = bench.take_line(line?.as_str())?;
-        io::writer(rt).write_all(&text)?;
-    }
-    Ok(())
-}
+use test_base::{ended, run_orders};
 
 fn main(rt: HostRuntime) -> ExitCode {
-    match run_table(&rt) {
-        Ok(()) => ExitCode::SUCCESS,
-        Err(Halt::Device) => ExitCode::from(DEVICE_FAILED),
-        Err(Halt::Memory) => ExitCode::from(NO_MEMORY),
-    }
+    let mut bench = Bench::new(rt.alloc());
+    ended(run_orders(&rt, &mut bench))
 }

@@ -6,6 +6,6 @@ use c_lex::Word;
 pub fn word_text(word: Word) -> &'static str {
     match word {
         Word::Unused => "unused",
-        _ => c_print::word_text(word),
+        _ => c_lex::word_text(word),
     }
 }

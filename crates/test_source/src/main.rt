@@ -33,47 +33,22 @@ mod words;
 mod writer;
 
 use crate::told::answer;
-use dfi_base::Memory;
-use std::io;
-use std::io::Write;
+use std::alloc::Global;
 use std::process::ExitCode;
+use test_base::{Halt, Orders, ended, run_orders};
 
-const DEVICE_FAILED: u8 = 1;
+// A table of sources, whose lines leave nothing behind.
+#[derive(Drop)]
+struct Sources;
 
-const NO_MEMORY: u8 = 8;
-
-// Why the table was not answered to its end.
-#[derive(Clone, Copy)]
-enum Halt {
-    Device,
-    Memory,
-}
-
-impl From<Memory> for Halt {
-    fn from(_: Memory) -> Halt {
-        Halt::Memory
+impl Orders for Sources {
+    fn take_line(&mut self, alloc: Global, line: &str) -> Result<Vec<u8>, Halt> {
+        let mut text = answer(alloc, line)?;
+        text.push('\n')?;
+        Ok(text.into_bytes())
     }
-}
-
-impl From<io::Error> for Halt {
-    fn from(_: io::Error) -> Halt {
-        Halt::Device
-    }
-}
-
-fn run_table<R: Input + Print + AllocGlobal>(rt: &R) -> Result<(), Halt> {
-    for line in rt.lines(rt.alloc()) {
-        let text = answer(rt.alloc(), line?.as_str())?;
-        io::writer(rt).write_all(text.as_bytes())?;
-        io::writer(rt).write_all(b"\n")?;
-    }
-    Ok(())
 }
 
 fn main(rt: HostRuntime) -> ExitCode {
-    match run_table(&rt) {
-        Ok(()) => ExitCode::SUCCESS,
-        Err(Halt::Device) => ExitCode::from(DEVICE_FAILED),
-        Err(Halt::Memory) => ExitCode::from(NO_MEMORY),
-    }
+    ended(run_orders(&rt, &mut Sources))
 }

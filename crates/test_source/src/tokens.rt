@@ -2,8 +2,7 @@
 
 use crate::kinds::word_text;
 use crate::names::write_names;
-use c_lex::{Kind, Lexed, Token};
-use c_print::mark_text;
+use c_lex::{Kind, Lexed, Token, mark_text};
 use dfi_base::{Memory, Text};
 use std::alloc::Global;
 

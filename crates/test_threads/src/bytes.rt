@@ -1,6 +1,7 @@
 ghost use Rattle.std.specs.Prelude.{◌≡◌};
 ghost use Rattle.test_threads.specs.Bytes.{bytes_meaning};
 
+use code_layout::Layout;
 use obj_mem::Maker;
 use tac_ir::{BinOp, Code, Place, UnOp};
 use tac_thread::Domain;
@@ -38,15 +39,15 @@ impl Domain for Bytes {
         }
     }
 
-    fn place(_c: &Code, _fun: u32, _s: &u8, _p: &Place) -> u8 {
+    fn place(_c: &Code, _l: &Layout, _fun: u32, _s: &u8, _p: &Place) -> u8 {
         0
     }
 
-    fn field(_c: &Code, _a: &u8, _shape: u32, _k: u32) -> Option<u8> {
+    fn field(_c: &Code, _l: &Layout, _a: &u8, _shape: u32, _k: u32) -> Option<u8> {
         None
     }
 
-    fn decay(_c: &Code, _a: &u8, _shape: u32) -> Option<u8> {
+    fn decay(_c: &Code, _l: &Layout, _a: &u8, _shape: u32) -> Option<u8> {
         None
     }
 
@@ -54,7 +55,7 @@ impl Domain for Bytes {
         None
     }
 
-    fn enter(_c: &Code, s: &u8, _fun: u32, _maker: Maker) -> Option<u8> {
+    fn enter(_c: &Code, _l: &Layout, s: &u8, _fun: u32, _maker: Maker) -> Option<u8> {
         Some(*s)
     }
 

@@ -3,6 +3,8 @@ ghost use Rattle.tac_ir.specs.GoodForm.{GoodForm};
 ghost use Rattle.tac_ir.specs.Layout.{parts_of};
 ghost use Rattle.test_threads.specs.Deep.{level, nested, deep_shapes, short_main, deep_code};
 
+use code_layout::Layout;
+use dfi_base::Memory;
 use sqlite_items::Items;
 use std::alloc::{AllocError, Global};
 use tac_ir::{Code, Fun, Instr, Lined, Shape};
@@ -107,9 +109,10 @@ fn deep(alloc: Global, nesting: Nesting, depth: u32) -> Result<Code, AllocError>
 }
 
 /// The words of so many levels round a pointer, as the int behind them tells.
-pub fn words(alloc: Global, nesting: Nesting, depth: u32) -> Result<Option<u32>, AllocError>
+pub fn words(alloc: Global, nesting: Nesting, depth: u32) -> Result<Option<u32>, Memory>
     requires { depth ≤ 24000 }
 {
     let code = deep(alloc, nesting, depth)?;
-    Ok(FlatWords::field(&code, &0, depth + 2, 1))
+    let layout = Layout::of(alloc, &code)?;
+    Ok(FlatWords::field(&code, &layout, &0, depth + 2, 1))
 }

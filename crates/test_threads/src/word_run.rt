@@ -1,4 +1,5 @@
 ghost use Rattle.std.specs.Prelude.{◌≡◌, Some, IsTrue, IfSome, OnOk};
+ghost use Rattle.code_layout.specs.LayoutOf.{IsLayoutOf};
 ghost use Rattle.tac_ir.specs.GoodForm.{GoodForm};
 ghost use Rattle.tac_thread.specs.declared.want.Want.{Want};
 ghost use Rattle.tac_thread.specs.Answered.{IsReplyTo};
@@ -9,6 +10,7 @@ use crate::desk::Desk;
 use crate::log::Log;
 use crate::row::{Room, Shown};
 use crate::stacks::{called, shares};
+use code_layout::Layout;
 use dfi_base::{Memory, Name};
 use std::alloc::Global;
 use tac_ir::Code;
@@ -47,10 +49,12 @@ fn fork(
     alloc: Global,
     tree: &mut Tree<FlatWords>,
     c: &Code,
+    l: &Layout,
     name: Name,
     branches: u32,
 ) -> Result<(), Memory>
     requires form { GoodForm c.now }
+    requires laid { IsLayoutOf c.now l.now }
     requires tree { IsTree flat_meaning c.now (life_in tree.old) }
     requires next { next_in flat_meaning c.now (life_in tree.old) name.0 ≡ Some (Want.Fork branches) }
     ensures { OnOk result (IsTree flat_meaning c.now (life_in tree.new)) }
@@ -61,15 +65,22 @@ fn fork(
     let Some(stack) = tree.stack(name) else {
         return Ok(());
     };
-    let stacks = shares(alloc, c, at.fun, &stack, branches)?;
+    let stacks = shares(alloc, c, l, at.fun, &stack, branches)?;
     if stacks.len() != branches as usize {
         return Ok(());
     }
-    tree.fork(c, name, stacks.as_slice())
+    tree.fork(c, l, name, stacks.as_slice())
 }
 
-fn call(tree: &mut Tree<FlatWords>, c: &Code, name: Name, fun: u32) -> Result<(), Memory>
+fn call(
+    tree: &mut Tree<FlatWords>,
+    c: &Code,
+    l: &Layout,
+    name: Name,
+    fun: u32,
+) -> Result<(), Memory>
     requires form { GoodForm c.now }
+    requires laid { IsLayoutOf c.now l.now }
     requires tree { IsTree flat_meaning c.now (life_in tree.old) }
     requires next { next_in flat_meaning c.now (life_in tree.old) name.0 ≡ Some (Want.Call fun) }
     ensures { OnOk result (IsTree flat_meaning c.now (life_in tree.new)) }
@@ -77,9 +88,9 @@ fn call(tree: &mut Tree<FlatWords>, c: &Code, name: Name, fun: u32) -> Result<()
     let Some(stack) = tree.stack(name) else {
         return Ok(());
     };
-    match called(c, &stack, fun) {
+    match called(c, l, &stack, fun) {
         None => Ok(()),
-        Some(callee) => tree.feed(c, name, ReplyOf::Stack(callee)),
+        Some(callee) => tree.feed(c, l, name, ReplyOf::Stack(callee)),
     }
 }
 
@@ -88,25 +99,27 @@ fn turn(
     alloc: Global,
     tree: &mut Tree<FlatWords>,
     c: &Code,
+    l: &Layout,
     name: Name,
     want: Want<u32>,
     desk: &mut Desk,
 ) -> Result<(), Memory>
     requires form { GoodForm c.now }
+    requires laid { IsLayoutOf c.now l.now }
     requires tree { IsTree flat_meaning c.now (life_in tree.old) }
     requires next { next_in flat_meaning c.now (life_in tree.old) name.0 ≡ Some want }
     ensures { OnOk result (IsTree flat_meaning c.now (life_in tree.new)) }
 {
     if let Want::Fork { branches } = want {
-        return fork(alloc, tree, c, name, branches);
+        return fork(alloc, tree, c, l, name, branches);
     }
     if let Want::Call { fun } = want {
-        return call(tree, c, name, fun);
+        return call(tree, c, l, name, fun);
     }
     let value = desk.value(want)?;
     match reply_to(want, value) {
         None => Ok(()),
-        Some(reply) => tree.feed(c, name, reply),
+        Some(reply) => tree.feed(c, l, name, reply),
     }
 }
 
@@ -115,22 +128,24 @@ fn run(
     alloc: Global,
     tree: &mut Tree<FlatWords>,
     c: &Code,
+    l: &Layout,
     desk: &mut Desk,
     log: &mut Log<u32>,
     limit: u64,
 ) -> Result<Option<u32>, Memory>
     requires form { GoodForm c.now }
+    requires laid { IsLayoutOf c.now l.now }
     requires tree { IsTree flat_meaning c.now (life_in tree.old) }
 {
     'turns: for _ in 0..limit {
         let Some(name) = tree.least() else {
             break;
         };
-        let Some(want) = tree.next(c, name) else {
+        let Some(want) = tree.next(c, l, name) else {
             break;
         };
         log.take(name, want)?;
-        turn(alloc, tree, c, name, want, desk)?;
+        turn(alloc, tree, c, l, name, want, desk)?;
     }
     Ok(tree.done())
 }
@@ -138,21 +153,24 @@ fn run(
 fn run_in(
     alloc: Global,
     c: &Code,
+    l: &Layout,
     stack: FlatStack,
     desk: &mut Desk,
     log: &mut Log<u32>,
     limit: u64,
 ) -> Result<Option<u32>, Memory>
     requires form { GoodForm c.now }
+    requires laid { IsLayoutOf c.now l.now }
     requires frame { IsTrue (flat_meaning.has_frame c.now c.now.main stack) }
 {
-    let mut tree = Tree::<FlatWords>::new(alloc, c, stack)?;
-    run(alloc, &mut tree, c, desk, log, limit)
+    let mut tree = Tree::<FlatWords>::new(alloc, c, l, stack)?;
+    run(alloc, &mut tree, c, l, desk, log, limit)
 }
 
 /// Main's frame from word 100 on, and the room behind it up to this word.
-fn main_stack(c: &Code, end: u32) -> Option<FlatStack>
-    requires { GoodForm c.now }
+fn main_stack(c: &Code, l: &Layout, end: u32) -> Option<FlatStack>
+    requires form { GoodForm c.now }
+    requires laid { IsLayoutOf c.now l.now }
     ensures { IfSome result (λ stack. IsTrue (flat_meaning.has_frame c.now c.now.main stack)) }
 {
     let room = FlatStack {
@@ -160,7 +178,7 @@ fn main_stack(c: &Code, end: u32) -> Option<FlatStack>
         top: START,
         end,
     };
-    called(c, &room, c.main)
+    called(c, l, &room, c.main)
 }
 
 /// Adds main's stack, the events of its threads, and main's value.
@@ -174,13 +192,14 @@ pub fn play(
 ) -> Result<String, Memory>
     requires { GoodForm c.now }
 {
-    let Some(stack) = main_stack(c, room.end) else {
+    let layout = Layout::of(alloc, c)?;
+    let Some(stack) = main_stack(c, &layout, room.end) else {
         return Ok(text);
     };
     let text = with_stack(text, &stack)?;
     let mut log = Log::new(text, shown);
     let mut desk = Desk::new(alloc, room.wrong);
-    let done = run_in(alloc, c, stack, &mut desk, &mut log, limit)?;
+    let done = run_in(alloc, c, &layout, stack, &mut desk, &mut log, limit)?;
     log.into_text(done)
 }
 

@@ -23,14 +23,14 @@ within : (size w : ℕ) → w < size → nat_le size w ≡ false
 within size w h = grind (arith, nat_le)
 
 -- a word that is found, and one that is not
-found : (t : Words) (m : Module) (r w : ℕ) → w < length t.values → w < length t.classes → decided m t r w ≡ found_by m r (slice_index t.values w) (slice_index t.classes w)
+found : (t : Words) (m : Module) (r w : ℕ) → w < length t.values → w < length t.classes → decided m t r w ≡ found_by m t.rows r (slice_index t.values w) (slice_index t.classes w)
 found t m r w low lower =
-    ap (λ o. elim o as (λ x. Answer) [ None ↦ Answer.Stop Stop.Address | Some value ↦ elim (slice_get t.classes w) [ None ↦ Answer.Stop Stop.Address | Some class ↦ found_by m r value class ] ]) (slice_get-get_or t.values w 0 low)
-    ∙ ap (λ o. elim o as (λ x. Answer) [ None ↦ Answer.Stop Stop.Address | Some class ↦ found_by m r (slice_index t.values w) class ]) (slice_get-get_or t.classes w 0 lower)
+    ap (λ o. elim o as (λ x. Answer) [ None ↦ Answer.Stop Stop.Address | Some value ↦ elim (slice_get t.classes w) [ None ↦ Answer.Stop Stop.Address | Some class ↦ found_by m t.rows r value class ] ]) (slice_get-get_or t.values w 0 low)
+    ∙ ap (λ o. elim o as (λ x. Answer) [ None ↦ Answer.Stop Stop.Address | Some class ↦ found_by m t.rows r (slice_index t.values w) class ]) (slice_get-get_or t.classes w 0 lower)
 
 missed : (t : Words) (m : Module) (r w : ℕ) → length t.values ≤ w → decided m t r w ≡ Answer.Stop Stop.Address
 missed t m r w high =
-    ap (λ o. elim o as (λ x. Answer) [ None ↦ Answer.Stop Stop.Address | Some value ↦ elim (slice_get t.classes w) [ None ↦ Answer.Stop Stop.Address | Some class ↦ found_by m r value class ] ]) (slice_get_past t.values w high)
+    ap (λ o. elim o as (λ x. Answer) [ None ↦ Answer.Stop Stop.Address | Some value ↦ elim (slice_get t.classes w) [ None ↦ Answer.Stop Stop.Address | Some class ↦ found_by m t.rows r value class ] ]) (slice_get_past t.values w high)
 
 abbrev answer_in : Bool → Bool → ℕ → ℕ → Answer
 answer_in beyond alarms class value = if beyond then Answer.Stop Stop.Address else (if alarms then Answer.Stop (Stop.Alarm class) else Answer.Value value)
@@ -42,8 +42,9 @@ reads m h t r w can holds = ⊎_elim inside outside (cases_lt w (memory_words m.
     inside low =
         let last = last_write m.code h w in
         found t m r w (omega (arith, low, holds.values)) (omega (arith, low, holds.classes))
-        ∙ ap (λ v. found_by m r v (slice_index t.classes w)) (holds.value w low)
-        ∙ ap (found_by m r last.value) (holds.class w low)
+        ∙ ap (λ v. found_by m t.rows r v (slice_index t.classes w)) (holds.value w low)
+        ∙ ap (found_by m t.rows r last.value) (holds.class w low)
+        ∙ ap (λ b. if is_checked m r && not b then Answer.Stop (Stop.Alarm (class_of m last.def)) else Answer.Value last.value) (holds.rows r (class_of m last.def))
         ∙ ap (λ b. if is_checked m r && not b then Answer.Stop (Stop.Alarm (class_of m last.def)) else Answer.Value last.value) (allowed_is m can r last)
         ∙ ap (λ b. answer_in b (is_checked m r && not (is_allowed m r last)) (class_of m last.def) last.value) (sym (within (memory_words m.size) w low))
 

@@ -15,6 +15,7 @@ use Rattle.word_table.specs.declared.areas.Area.{Area}
 use Rattle.word_table.specs.tools.Areas.{area_at, areas_from, cells_of, area_words, memory_of}
 use Rattle.word_table.specs.Words.{Words}
 use Rattle.word_table.specs.Holds.{HoldsAfter}
+use Rattle.word_table.specs.tools.BitRows.{AreRowsOf}
 use Rattle.word_table.specs.Tables.{CanRun}
 use Rattle.word_table.proofs.LaidOut.{low_globals}
 use Rattle.tac_ir.specs.declared.module.Size.{Size}
@@ -114,9 +115,9 @@ areas_end m sizes sized =
 
 pub first_words : (m : Module) (sizes : List ℕ) (t : Words) → ((s : ℕ) → slice_index sizes s ≡ shape_words m.code s) → 16 + area_words (areas_from sizes m 0 m.code.globals) ≤ memory_words m.size
     → t.values ≡ memory_of (λ a. a.value) (memory_words m.size) (areas_from sizes m 0 m.code.globals) → t.classes ≡ memory_of (λ a. a.class) (memory_words m.size) (areas_from sizes m 0 m.code.globals)
-    → HoldsAfter m [] t
+    → AreRowsOf m t.rows → HoldsAfter m [] t
 unfolding last_write
-first_words m sizes t sized fit values classes =
+first_words m sizes t sized fit values classes rows =
     let areas = areas_from sizes m 0 m.code.globals in
     let size = memory_words m.size in
     record {
@@ -124,6 +125,7 @@ first_words m sizes t sized fit values classes =
       classes = ap length classes ∙ length_memory (λ a. a.class) size areas fit;
       value = λ w low. (ap (λ l. slice_index l w) values ∙ starts m sizes sized (λ a. a.value) (λ l. l.value) refl (λ g x. refl) size m.code.globals w);
       class = λ w low. (ap (λ l. slice_index l w) classes ∙ starts m sizes sized (λ a. a.class) (λ l. class_of m l.def) refl (λ g x. refl) size m.code.globals w);
+      rows = rows;
     }
 
 roomy : (size : Size) → 8192 ≤ memory_words size
@@ -138,8 +140,9 @@ pub fits : (m : Module) (sizes : List ℕ) (areas : List Area) (size : ℕ) → 
 fits m sizes areas size can sized is same = omega (arith, same, roomy m.size, low_globals m.code can.form, areas_end m sizes sized, ap area_words is)
 
 pub begins : (m : Module) (sizes : List ℕ) (areas : List Area) (size : ℕ) (t : Words) → CanRun m → AreSized m sizes → areas ≡ areas_from sizes m 0 m.code.globals → size ≡ memory_words m.size
-    → t.values ≡ memory_of (λ a. a.value) size areas → t.classes ≡ memory_of (λ a. a.class) size areas → HoldsAfter m [] t
-begins m sizes areas size t can sized is same values classes =
+    → t.values ≡ memory_of (λ a. a.value) size areas → t.classes ≡ memory_of (λ a. a.class) size areas → AreRowsOf m t.rows → HoldsAfter m [] t
+begins m sizes areas size t can sized is same values classes rows =
     first_words m sizes t sized (fits m sizes (areas_from sizes m 0 m.code.globals) (memory_words m.size) can sized refl refl)
     (values ∙ ap (λ n. memory_of (λ a. a.value) n areas) same ∙ ap (memory_of (λ a. a.value) (memory_words m.size)) is)
     (classes ∙ ap (λ n. memory_of (λ a. a.class) n areas) same ∙ ap (memory_of (λ a. a.class) (memory_words m.size)) is)
+    rows

@@ -1,3 +1,4 @@
+pub mod BitRows
 pub mod Members
 pub mod Decides
 pub mod Writes

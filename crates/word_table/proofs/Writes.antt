@@ -32,16 +32,18 @@ stays m e h t nothing holds =
       classes = holds.classes;
       value = λ w low. (holds.value w low ∙ ap (λ (l : Written). l.value) (sym (same w low)));
       class = λ w low. (holds.class w low ∙ ap (λ (l : Written). class_of m l.def) (sym (same w low)));
+      rows = holds.rows;
     }
 
 -- a write that is answered
 puts : (m : Module) (e : Entry) (h : List Entry) (t : Words) (d at v : ℕ) → at < memory_words m.size → e.op ≡ Op.Write (record { 0 = d }) at v → e.answer ≡ Answer.Unit → HoldsAfter m h t
-    → HoldsAfter m (e ∷ h) (record { values = slice_set t.values at v; classes = slice_set t.classes at (class_of m d) })
+    → HoldsAfter m (e ∷ h) (record { values = slice_set t.values at v; classes = slice_set t.classes at (class_of m d); rows = t.rows })
 puts m e h t d at v low op answer holds = record {
   values = length-set t.values at v ∙ holds.values;
   classes = length-set t.classes at (class_of m d) ∙ holds.classes;
   value = λ w within. ⊎_elim (λ q. value_here w q) (λ q. value_there w q within) (cases_eq at w);
   class = λ w within. ⊎_elim (λ q. class_here w q) (λ q. class_there w q within) (cases_eq at w);
+  rows = holds.rows;
 }
   where
     wrote : Written
@@ -88,7 +90,7 @@ pub after_write : (m : Module) (e : Entry) (h : List Entry) (t : Words) (d at v 
 after_write m e h t d at v holds op answer = ⊎_elim inside outside (cases_lt at (memory_words m.size))
   where
     new : Words
-    new = record { values = slice_set t.values at v; classes = slice_set t.classes at (class_of m d) }
+    new = record { values = slice_set t.values at v; classes = slice_set t.classes at (class_of m d); rows = t.rows }
 
     inside : at < memory_words m.size → HoldsAfter m (e ∷ h) (written t (class_of m d) at v)
     inside low =

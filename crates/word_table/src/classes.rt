@@ -1,7 +1,6 @@
-ghost use Rattle.std.specs.Prelude.{◌≡◌, ℕ, ◌<◌, ◌^◌};
-ghost use Rattle.std.specs.List.{list_any};
-ghost use Rattle.tac_ir.specs.Answers.{class_of, set_of, is_checked};
-ghost use Rattle.word_table.specs.tools.Classes.{is_class_in, AreShort};
+ghost use Rattle.std.specs.Prelude.{◌≡◌};
+ghost use Rattle.tac_ir.specs.Answers.{class_of, is_checked};
+ghost use Rattle.word_table.specs.tools.Classes.{AreShort};
 
 use tac_ir::Module;
 
@@ -16,27 +15,6 @@ pub fn class_of(m: &Module, def: u32) -> u16
     match m.classes.list.get(def as usize - 1) {
         Some(class) => *class as u16,
         None => 0,
-    }
-}
-
-/// Whether a class is that of a member of the set of a read.
-pub fn allows(m: &Module, read: u32, found: u16) -> bool
-    requires { AreShort m.now }
-    ensures { result ≡ is_class_in m.now (set_of m.now read) found }
-{
-    set_of(m, read).iter().any(|def| class_of(m, *def) == found)
-}
-
-// The set of a read.
-fn set_of(m: &Module, read: u32) -> &[u32]
-    ensures { result.now ≡ set_of m.now read }
-{
-    if read == 0 {
-        return &[];
-    }
-    match m.sets.lists.get(read as usize - 1) {
-        Some(set) => set.as_slice(),
-        None => &[],
     }
 }
 

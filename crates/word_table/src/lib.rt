@@ -2,7 +2,9 @@
 #![tactic(auto)]
 
 mod areas;
+mod bits;
 mod classes;
+mod rows;
 mod table;
 
 pub use table::WordTable;

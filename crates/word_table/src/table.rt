@@ -2,26 +2,27 @@ ghost use Rattle.std.specs.Prelude.{◌≡◌, ℕ, List, [], ◌∷◌, IfOk};
 ghost use Rattle.tac_ir.specs.declared.run.Entry.{Entry};
 ghost use Rattle.tac_ir.specs.declared.run.Op.{Op};
 ghost use Rattle.tac_ir.specs.Answers.{read_answer, write_answer};
-ghost use Rattle.tac_ir.specs.Layout.{memory_words};
 ghost use Rattle.tac_ir.specs.Module.{Module};
 ghost use Rattle.word_table.specs.Tables.{CanRun};
 ghost use Rattle.word_table.specs.Holds.{HoldsAfter};
-ghost use Rattle.word_table.specs.tools.Classes.{AreShort};
 ghost use Rattle.word_table.specs.tools.Deciding.{found_by, decided, written};
 
 use crate::areas::{areas_of, classes_of, values_of};
-use crate::classes::{allows, class_of, is_checked};
+use crate::bits::Bits;
+use crate::classes::{class_of, is_checked};
+use crate::rows::{row_has, rows_of, width_of};
 use code_layout::shape_sizes;
 use dfi_base::{DefNo, Memory, ReadNo};
 use std::alloc::Global;
 use std::marker::Model;
-use tac_ir::{Answer, Module, Size, Stop};
+use tac_ir::{Answer, Module, Stop};
 
-/// The value of each word, and the class of its last writer.
+/// The value of each word, the class of its last writer, and the classes that each read allows.
 #[derive(Drop)]
 pub struct WordTable {
     values: Vec<u32>,
     classes: Vec<u16>,
+    rows: Vec<Bits>,
 }
 
 impl Model for WordTable {
@@ -29,7 +30,7 @@ impl Model for WordTable {
 
     ghost Value = { Words };
 
-    ghost view = { λ t. record { values = t.values.items; classes = t.classes.items } };
+    ghost view = { λ t. record { values = t.values.items; classes = t.classes.items; rows = t.rows.items } };
 }
 
 impl WordTable {
@@ -40,10 +41,16 @@ impl WordTable {
     {
         let sizes = shape_sizes(alloc, &m.code)?;
         let areas = areas_of(alloc, m, &sizes)?;
-        let size = memory_words(m.size);
+        let size = m.size.memory_words();
         let values = values_of(alloc, size, &areas)?;
         let classes = classes_of(alloc, size, &areas)?;
-        Ok(WordTable { values, classes })
+        let width = width_of(m.classes.list.as_slice());
+        let rows = rows_of(alloc, m, m.sets.lists.as_slice(), width)?;
+        Ok(WordTable {
+            values,
+            classes,
+            rows,
+        })
     }
 
     /// The answer of a read: a class decides it as the last write and the set of the read do.
@@ -76,14 +83,13 @@ impl WordTable {
     }
 
     fn decide(&self, m: &Module, read: u32, word: u32) -> Answer
-        requires { AreShort m.now }
         ensures { result ≡ decided m.now self.now read word }
     {
         match (
             self.values.get(word as usize),
             self.classes.get(word as usize),
         ) {
-            (Some(value), Some(class)) => found_by(m, read, *value, *class),
+            (Some(value), Some(class)) => found_by(m, &self.rows, read, *value, *class),
             _ => Answer::Stop(Stop::Address),
         }
     }
@@ -99,22 +105,11 @@ impl WordTable {
 }
 
 // A read that finds this value and class.
-fn found_by(m: &Module, read: u32, value: u32, class: u16) -> Answer
-    requires { AreShort m.now }
-    ensures { result ≡ found_by m.now read value class }
+fn found_by(m: &Module, rows: &[Bits], read: u32, value: u32, class: u16) -> Answer
+    ensures { result ≡ found_by m.now rows.now read value class }
 {
-    if is_checked(m, read) && !allows(m, read, class) {
+    if is_checked(m, read) && !row_has(rows, read, class) {
         return Answer::Stop(Stop::Alarm { found: class });
     }
     Answer::Value(value)
-}
-
-// The words of a memory.
-fn memory_words(size: Size) -> u32
-    ensures { result ≡ memory_words size }
-{
-    match size {
-        Size::Small => 65536,
-        Size::Large => 1048576,
-    }
 }

@@ -9,12 +9,13 @@ use Rattle.c_lex.specs.declared.token.Token.{Token}
 use Rattle.c_lex.specs.Bytes.{line_at}
 use Rattle.c_lex.specs.Names.{each_once, name_texts, with_name}
 use Rattle.c_lex.specs.Tokens.{IsKind, Tokens}
+use Rattle.dfi_base.specs.Limits.{token_limit}
 
 -- the bytes before this place are these tokens, within the limit, with these names, and the place is on this line
 pub record IsRead (bytes : List ℕ) (tokens : List Token) (names : List (List ℕ)) (line at : ℕ) : Type 0 where
   pub within : at ≤ length bytes
   pub stand : Tokens bytes names 0 tokens at
-  pub few : length tokens ≤ 200000
+  pub few : length tokens ≤ token_limit
   pub named : names ≡ each_once (name_texts bytes tokens)
   pub here : line ≡ line_at bytes at
 
@@ -55,7 +56,7 @@ pub record IsAdded (old : List Token) (text : List ℕ) (piece : Piece) (start l
   pub kind : Kind
   pub is : IsKind names text piece kind
   pub added : new ≡ old ++ (record { kind = kind; start = start; end = start + length text; line = record { 0 = line } }) ∷ []
-  pub room : length old < 200000
+  pub room : length old < token_limit
 
 -- a token at this place is one too many behind so many
 abbrev pub Overflows : ℕ → ℕ → LexFault → Type 0
@@ -63,5 +64,5 @@ Overflows count start (faults.BadByte at) = ⊥
 Overflows count start (faults.BadNumber at) = ⊥
 Overflows count start (faults.BigNumber at) = ⊥
 Overflows count start (faults.OpenComment at) = ⊥
-Overflows count start (faults.TooMany at) = (at ≡ start) × (count ≡ 200000)
+Overflows count start (faults.TooMany at) = (at ≡ start) × (count ≡ token_limit)
 Overflows count start faults.Memory = Unit {0}

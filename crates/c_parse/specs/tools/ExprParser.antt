@@ -21,7 +21,7 @@ use Rattle.c_parse.specs.tools.Sorts.{operand_start, suffix_start, is_base, is_o
 use Rattle.c_parse.specs.tools.Tokens.{P, next, kind_of, choose, located, want, is_mark, mark_at, word_at, ident_at, number_at, goes}
 use Rattle.c_parse.specs.tools.TypeParser.{type_name, has, after_comma}
 use denote.Enum.Bare.{sameb}
-use Rattle.c_parse.specs.NestingLimit.{nesting_limit}
+use Rattle.dfi_base.specs.Limits.{nesting_limit}
 
 abbrev pub expr_of : Subject → Expr
 expr_of (Subject.Prefixed a) = a
@@ -132,7 +132,7 @@ module _ (limit : ℕ) (inner : ℕ → P Expr) where
 
   abbrev pub opened_by : Line → ℕ → Bool → P Subject
   opened_by l c true = do t ← type_name; want (mark_at Mark.CloseParen); a ← inner c; pure (Subject.Prefixed (e.Cast l t a))
-  opened_by l c false = do a ← expr c; want (mark_at Mark.CloseParen); postfix l c (e.Paren l a)
+  opened_by l c false = do a ← expr c; want (mark_at Mark.CloseParen); postfix l c a
 
   -- behind an opening parenthesis: a cast where a type comes next
   unfoldable pub opened : Line → ℕ → P Subject

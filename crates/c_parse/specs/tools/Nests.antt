@@ -9,7 +9,7 @@ use Rattle.c_parse.specs.Symbol.{Symbols}
 use Rattle.c_parse.specs.tools.ExprParser.{subject}
 use Rattle.c_parse.specs.tools.StmtParser.{stmt}
 use Rattle.c_parse.specs.tools.Reads.{Reads}
-use Rattle.c_parse.specs.NestingLimit.{nesting_limit}
+use Rattle.dfi_base.specs.Limits.{nesting_limit}
 
 pub record Nests (fuel : ℕ) (pre : Global → MutBor Symbols → ℕ → ℕ → Type 0)
     (post : Global → MutBor Symbols → ℕ → ℕ → Result Subject Failure → MutBor Symbols → Type 0) : Type 0 where

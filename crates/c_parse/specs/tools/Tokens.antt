@@ -2,14 +2,13 @@
 use Rattle.std.specs.Prelude.{ℤ, Bool, true, false, if◌then◌else◌, List, [], ◌∷◌, Option, Some, None}
 use Rattle.dfi_base.specs.declared.numbers.Line.{Line}
 use Rattle.c_lex.specs.declared.token.Word.{Word}
-use Rattle.c_lex.specs.contracts.token.Word as word_type
 use Rattle.c_lex.specs.declared.token.Mark.{Mark}
-use Rattle.c_lex.specs.contracts.token.Mark as mark_type
 use Rattle.c_lex.specs.declared.token.Kind.{Kind}
+use Rattle.c_lex.specs.Marks.{same_mark}
+use Rattle.c_lex.specs.Words.{same_word}
 use Rattle.c_ast.specs.declared.ident.Ident.{Ident}
 use Rattle.parse_law.specs.tools.Parsing.{Parser, ◌>>◌, unexpected, refuse, skip, pure}
 use Rattle.c_parse.specs.Symbol.{Symbol}
-use denote.Enum.Bare.{sameb}
 
 abbrev pub P : Type 0 → Type 0
 P A = Parser Symbol A
@@ -42,12 +41,6 @@ want_by (Some a) = skip >> pure a
 -- past the next token, which must have a value
 unfoldable pub want : {T A : Type 0} → (T → Option A) → Parser T A
 want value ts = want_by (value_of value (next ts)) ts
-
-abbrev pub same_mark : Mark → Mark → Bool
-same_mark = sameb mark_type.the_type
-
-abbrev pub same_word : Word → Word → Bool
-same_word = sameb word_type.the_type
 
 abbrev pub is_mark : Mark → Option Kind → Bool
 is_mark m (Some (Kind.Mark k)) = same_mark k m

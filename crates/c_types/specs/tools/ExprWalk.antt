@@ -19,10 +19,10 @@ use Rattle.c_types.specs.declared.outline.Outline.{Outline}
 use Rattle.c_types.specs.declared.scopes.Home.{Home}
 use Rattle.c_types.specs.declared.scopes.Binding.{Binding}
 use Rattle.c_types.specs.declared.known.Known.{Known}
-use Rattle.c_typed.specs.Types.{fits}
+use Rattle.c_typed.specs.Types.{fits, place_of_type}
 use Rattle.c_types.specs.tools.Tables.{looked}
 use Rattle.c_typed.specs.Faults.{unknown, mismatch, not_lvalue}
-use Rattle.c_typed.specs.Exprs.{made, Layer, Size, one_of, many_of, value_by_type, place_by_type, binary, int_prefix, plus, negation, pointed_at, address, item_at, struct_at, struct_behind, all_fit, called_type, asked, put_by, freed_by}
+use Rattle.c_typed.specs.Exprs.{made, untyped, Layer, Size, one_of, many_of, value_by_type, place_by_type, binary, int_prefix, plus, negation, pointed_at, address, item_at, struct_at, struct_behind, all_fit, called_type, asked, put_by, freed_by}
 use Rattle.c_types.specs.tools.Steps.{Found, ◌>>=◌, broken, kept}
 use Rattle.c_types.specs.tools.Outlines.{spelled, bound, means_malloc, type_name_walk}
 
@@ -73,11 +73,12 @@ abbrev pub member_walk : Outline → ℕ → Ident → Found (ℕ × ObjectType)
 member_walk o k f = elim (slice_get o.shapes k) [ None ↦ broken unknown f.line | Some s ↦ member_in f s.members ]
 
 abbrev pub field_node : (Expr → ℕ → Layer) → Expr → ℕ × ObjectType → Expr
-field_node form e m = made (ExprType.Place m.1) (form e m.0)
+field_node form e m = made (place_of_type m.1) (form e m.0)
 
-abbrev pub fielded : Outline → Line → Ident → (Expr → ℕ → Layer) → Expr → Option ℕ → Found Expr
+abbrev pub fielded : Outline → Line → Ident → (Expr → ℕ → Layer) → Expr → Option (Option ℕ) → Found Expr
 fielded o line f form e None = broken mismatch line
-fielded o line f form e (Some k) = member_walk o k f >>= (λ m. Ok (field_node form e m))
+fielded o line f form e (Some None) = Ok (untyped (form e 0))
+fielded o line f form e (Some (Some k)) = member_walk o k f >>= (λ m. Ok (field_node form e m))
 
 abbrev pub field_walk : Outline → Line → Finding → Ident → Found Expr
 field_walk o line w f = w.plain >>= (λ e. fielded o line f Form-F.Field e (struct_at e.typing))
@@ -91,7 +92,7 @@ home_form Home.Global k = Form-F.Global k
 home_form Home.Local k = Form-F.Local k
 
 abbrev pub variable_node : Binding → Expr
-variable_node b = made (ExprType.Place b.object) (home_form b.home b.number)
+variable_node b = made (place_of_type b.object) (home_form b.home b.number)
 
 -- a function's name, or a name that means nothing
 abbrev pub unbound : Outline → Ident → Spelling → Option ℕ → Found Expr
@@ -132,6 +133,7 @@ size_or line (Some s) = s
 
 abbrev pub new_by : ObjectType → Expr → ExprType → Option Expr
 new_by t n ExprType.Int = Some (made (ExprType.Pointer t) (Form-F.New t (Some n)))
+new_by t n ExprType.Unknown = Some (made (ExprType.Pointer t) (Form-F.New t (Some n)))
 new_by t n _ = None
 
 abbrev pub allocated_by : ObjectType → Option Expr → Option Expr

@@ -15,12 +15,13 @@ use Rattle.c_typed.specs.Faults.{unknown}
 use Rattle.c_types.specs.tools.Steps.{Found, ◌>>=◌, unless_kept}
 
 -- Types.
-abbrev pub number_of : Outline → ℕ → ℕ
-number_of o tag = elim (looked o.tags tag) [ None ↦ o.structs | Some k ↦ k ]
+abbrev pub struct_by : Option ℕ → BaseType
+struct_by None = BaseType.Unknown
+struct_by (Some k) = BaseType.Struct k
 
 abbrev pub base_type : Outline → Base → BaseType
 base_type o (Base.Int line) = BaseType.Int
-base_type o (Base.Struct line tag) = BaseType.Struct (number_of o tag.name)
+base_type o (Base.Struct line tag) = struct_by (looked o.tags tag.name)
 
 abbrev pub pointers_to : Outline → Base → ℕ → ObjectType
 pointers_to o base stars = record { base = base_type o base; stars = stars; lengths = [] }
@@ -45,6 +46,7 @@ shape_words o k = elim (slice_get o.shapes k) [ None ↦ 0 | Some s ↦ s.words 
 abbrev pub base_words : Outline → BaseType → ℕ
 base_words o BaseType.Int = 1
 base_words o (BaseType.Struct k) = shape_words o k
+base_words o BaseType.Unknown = 0
 
 abbrev pub item_words : Outline → BaseType → ℕ → ℕ
 item_words o base zero = base_words o base

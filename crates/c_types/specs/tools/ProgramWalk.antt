@@ -1,6 +1,5 @@
 -- What the code finds of the items of a program, and what is known behind them. A tool of proof.
 use Rattle.std.specs.Prelude.{ℕ, suc, ℤ, neg_ℤ, ◌+◌, Bool, true, false, ◌&&◌, ◌||◌, not, nat_eq, nat_le, nat_lt, List, [], ◌∷◌, map, length, Option, Some, None, slice_get, is_some, Ok}
-use Rattle.std.specs.List.{list_all}
 use Rattle.dfi_base.specs.declared.numbers.Line.{Line}
 use Rattle.c_ast.specs.declared.ident.Ident.{Ident}
 use Rattle.c_ast.specs.declared.decl.Base.{Base}
@@ -21,7 +20,6 @@ use Rattle.c_ast.specs.declared.program.Proto.{Proto}
 use Rattle.c_ast.specs.declared.program.Item.{Item}
 use Rattle.c_typed.specs.declared.fault.BigWhat.{BigWhat}
 use Rattle.c_typed.specs.declared.fault.TypeFault.{TypeFault}
-use Rattle.c_typed.specs.declared.types.BaseType.{BaseType}
 use Rattle.c_typed.specs.declared.types.ObjectType.{ObjectType}
 use Rattle.c_typed.specs.declared.stmt.Stmt.{Stmt}
 use Rattle.c_typed.specs.declared.program.Struct.{Struct}
@@ -33,7 +31,7 @@ use Rattle.c_types.specs.declared.known.Around.{Around}
 use Rattle.c_types.specs.declared.known.Known.{Known}
 use Rattle.c_typed.specs.Faults.{unknown, twice, mismatch, big, no_main, told_by}
 use Rattle.c_typed.specs.Decls.{has_items, by_value}
-use Rattle.c_typed.specs.Programs.{number_of, start_of, has_scalar_result, is_int, no_parameters, no_proto_parameters, same_objects, same_result, types_in}
+use Rattle.c_typed.specs.Programs.{number_of, start_of, has_scalar_result, is_int, no_parameters, no_proto_parameters, same_objects, same_result, types_in, are_sound}
 use Rattle.c_types.specs.declared.programs.Program.{Program}
 use Rattle.c_types.specs.tools.Tables.{looked}
 use Rattle.c_types.specs.tools.Steps.{Found, ◌>>=◌, broken, kept, unless_kept, each, every, if_some}
@@ -185,20 +183,10 @@ abbrev pub proto_types : Outline → ProtoParams → List ObjectType
 proto_types o (ProtoParams.List ps) = map (λ p. parameter_type o p.base p.stars p.brackets) ps
 proto_types o _ = []
 
-abbrev pub has_struct : Outline → BaseType → Bool
-has_struct o BaseType.Int = true
-has_struct o (BaseType.Struct k) = nat_lt k o.structs
-
-abbrev pub have_structs : Outline → List ObjectType → Bool
-have_structs o = list_all (λ t. has_struct o t.base)
-
-abbrev pub have_all : Outline → Option ObjectType → List ObjectType → Bool
-have_all o result types = have_structs o (types_in result types)
-
--- where a tag of the prototype is of no struct, the types are not compared
-abbrev pub agrees : Outline → Option ObjectType → List ObjectType → Signature → Bool
-agrees o result types s =
-    not (have_all o result types) || (same_result result s.result && same_objects types s.parameters)
+abbrev pub agrees : Option ObjectType → List ObjectType → Signature → Bool
+agrees result types s =
+    not (are_sound (types_in result types) && are_sound (types_in s.result s.parameters))
+    || (same_result result s.result && same_objects types s.parameters)
 
 abbrev pub defined_at : Outline → Option ℕ → Option Signature
 defined_at o None = None
@@ -212,7 +200,7 @@ is_plain_proto p = is_int p.result && no_proto_parameters p.params
 
 abbrev pub proto_fits : Outline → Proto → Option ObjectType → List ObjectType → Signature → Bool
 proto_fits o p result types s =
-    has_scalar_result result && agrees o result types s && fits_main o p.name.name (is_plain_proto p)
+    has_scalar_result result && agrees result types s && fits_main o p.name.name (is_plain_proto p)
 
 abbrev pub is_known_otherwise : Outline → Known → ℕ → Bool
 is_known_otherwise o k x = is_some (looked k.declared.global_names x) || is_builtin (spelled o x)

@@ -4,9 +4,7 @@ use Rattle.tac_ir.specs.declared.code.Code.{Code}
 use Rattle.tac_ir.specs.declared.run.Op.{Op}
 use Rattle.tac_ir.specs.declared.run.Answer.{Answer}
 use Rattle.tac_ir.specs.declared.run.Entry.{Entry}
-use Rattle.tac_thread.specs.declared.flat.FlatStack.{FlatStack}
 use Rattle.tac_thread.specs.declared.want.Want.{Want}
-use Rattle.tac_thread.specs.declared.want.ReplyOf.{ReplyOf}
 use Rattle.tac_thread.specs.Doing.{want_of}
 use Rattle.tac_thread.specs.Flat.{flat_meaning}
 use Rattle.path_law.specs.Asked.{op_of}
@@ -27,12 +25,6 @@ asks l (Some op) = Some (record { point = point_of l.top; op = op; stack = l.top
 abbrev pub asked_of : Code → Option FlatLife → Option Asked
 asked_of c None = None
 asked_of c (Some l) = asks l (op_in (want_of flat_meaning c l))
-
--- the reply that tells an answer; what stops the run has none
-abbrev pub reply_to : Answer → Option (ReplyOf ℕ FlatStack)
-reply_to Answer.Unit = Some ReplyOf.Unit
-reply_to (Answer.Value v) = Some (ReplyOf.Value v)
-reply_to (Answer.Stop stop) = None
 
 -- the entry of an event of thread n that was answered so
 abbrev pub entry_of : ℕ → Asked → Answer → Entry

@@ -7,7 +7,7 @@ use Rattle.c_parse.specs.tools.TypeParser.{after_comma}
 use Rattle.parse_law.specs.tools.Parsing.{found_and, ◌<$>◌}
 use Rattle.c_parse.proofs.Loops.{turn_first, turn_more, turn_none}
 use Rattle.c_parse.proofs.decls.more_items.Goals as goal
-use Rattle.c_parse.specs.NestingLimit.{nesting_limit}
+use Rattle.dfi_base.specs.Limits.{nesting_limit}
 
 pub loop-turn-init : goal.loop-turn-init
 loop-turn-init c = turn_first (is_mark Mark.Comma) refl (λ found. found_and found <$> after_comma (spec.decl_item nesting_limit c.args.counter)) _ _ _ (omega arith)

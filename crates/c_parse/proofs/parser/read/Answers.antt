@@ -1,6 +1,6 @@
 use Rattle.std.proofs.Common.{ap, ◌∙◌}
 use Rattle.c_parse.specs.Symbol.{symbols_of}
-use Rattle.c_parse.proofs.Told.{told_of}
+use Rattle.c_parse.proofs.CodeAnswers.{told_of}
 use Rattle.c_parse.proofs.parser.read.Goals as goal
 
 pub returns : goal.returns

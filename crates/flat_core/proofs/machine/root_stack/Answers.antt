@@ -6,4 +6,4 @@ use Rattle.std.proofs.Common.{subst}
 
 pub unreachable-requires : goal.unreachable-requires
 unreachable-requires c =
-    main_fits c.m.inside.code c.m.inside.size c.stacks_of-base.result (subst (λ m. GoodForm m.code) (sym c.m.view_is) c.requires) c.stacks_of-base.ensures (sym c.enter.ensures ∙ c.in-None.is)
+    main_fits c.m.inside.code c.m.inside.size (c.stack_from-base.result, c.memory_words.result) (subst (λ m. GoodForm m.code) (sym c.m.view_is) c.requires.form) (c.stack_from-base.ensures, c.memory_words.ensures) (sym c.enter.ensures ∙ c.in-None.is)

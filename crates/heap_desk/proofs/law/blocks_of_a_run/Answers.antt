@@ -1,8 +1,9 @@
-use Rattle.heap_desk.proofs.Histories.{history_is_answered, stays_heap, free_again, taken_again}
+use Rattle.tac_ir.proofs.Lasting.{history_served}
+use Rattle.heap_desk.proofs.Histories.{stays_heap, free_again, taken_again}
 use Rattle.heap_desk.proofs.law.blocks_of_a_run.Goals as goal
 
-pub returns-clause-answered : goal.returns-clause-answered
-returns-clause-answered c = history_is_answered
+pub returns-clause-served : goal.returns-clause-served
+returns-clause-served c = history_served
 
 pub returns-clause-apart : goal.returns-clause-apart
 returns-clause-apart c = stays_heap

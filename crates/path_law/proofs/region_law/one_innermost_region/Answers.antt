@@ -1,4 +1,4 @@
-use Rattle.path_law.proofs.Innermost.{innermost_is, no_region_is}
+use Rattle.tac_ir.proofs.regions.Innermost.{innermost_is, no_region_is}
 use Rattle.path_law.proofs.region_law.one_innermost_region.Goals as goal
 
 pub returns-clause-region : goal.returns-clause-region

@@ -1,6 +1,6 @@
 use Rattle.std.proofs.Common.{◌++◌, ◌∙◌, ap, arith, map}
 use Rattle.tac_lower.specs.tools.Counting.{capped_share}
-use Rattle.tac_lower.specs.Limits.{passing, def_limit, def_shares, starting_in, defs_in}
+use Rattle.tac_lower.specs.Limits.{passing, definition_limit, def_shares, starting_in, defs_in}
 use Rattle.tac_lower.proofs.CountLaws.{def_shares-capped, passing-capped}
 use Rattle.tac_lower.proofs.limits.defs_passing.Goals as goal
 
@@ -11,4 +11,4 @@ returns c =
     ∙ ap (map (λ g. capped_share (starting_in g))) c.as_slice.ensures in
     let second = c.in_ok-add_defs.ensures ∙ ap (λ xs. xs ++ map (λ f. capped_share (defs_in f)) c.as_slice-2.result.now) first
     ∙ ap (λ fs. map (λ g. capped_share (starting_in g)) code.globals ++ map (λ f. capped_share (defs_in f)) fs) c.as_slice-2.ensures in
-    c.passing.ensures ∙ ap (passing def_limit) (c.as_slice-3.ensures.value ∙ second ∙ def_shares-capped code) ∙ passing-capped def_limit (def_shares code) (omega arith)
+    c.passing.ensures ∙ ap (passing definition_limit) (c.as_slice-3.ensures.value ∙ second ∙ def_shares-capped code) ∙ passing-capped definition_limit (def_shares code) (omega arith)

@@ -4,7 +4,7 @@ use Rattle.parse_law.specs.tools.Parsing.{rising}
 use Rattle.c_parse.specs.tools.ExprParser as spec
 use Rattle.c_parse.proofs.Loops.{turn_first, turn_more, turn_none}
 use Rattle.c_parse.proofs.exprs.Exprs.+level.Goals as goal
-use Rattle.c_parse.specs.NestingLimit.{nesting_limit}
+use Rattle.dfi_base.specs.Limits.{nesting_limit}
 
 pub operators-loop-turn-init : goal.operators-loop-turn-init
 operators-loop-turn-init g t c = turn_first (spec.is_binary c.args.tier) refl (λ v. rising nesting_limit v.1 (spec.right c.args.tier (spec.level nesting_limit (spec.unary_of (spec.subject nesting_limit c.args.self.now.fuel)) c.args.lower.now) c.args.line v.0)) _ _ _ (omega arith)

@@ -3,7 +3,7 @@ use Rattle.parse_law.specs.tools.Parsing.{rising, turns}
 use Rattle.c_parse.specs.tools.ExprParser as spec
 use Rattle.c_parse.specs.tools.Tokens.{goes}
 use Rattle.c_parse.proofs.exprs.Exprs.+level.Given as goal
-use Rattle.c_parse.specs.NestingLimit.{nesting_limit}
+use Rattle.dfi_base.specs.Limits.{nesting_limit}
 
 abbrev pub decreases-level : goal.decreases-level
 decreases-level g l = 5 * length l.tiers.now

@@ -4,7 +4,7 @@ use Rattle.c_parse.specs.tools.Sorts.{is_suffix}
 use Rattle.c_parse.specs.tools.ExprParser as spec
 use Rattle.c_parse.proofs.Loops.{turn_first, turn_more, turn_none}
 use Rattle.c_parse.proofs.exprs.Exprs.suffixes.Goals as goal
-use Rattle.c_parse.specs.NestingLimit.{nesting_limit}
+use Rattle.dfi_base.specs.Limits.{nesting_limit}
 
 pub loop-turn-init : goal.loop-turn-init
 loop-turn-init g c = turn_first (is_suffix) refl (spec.suffix_after nesting_limit (spec.unary_of (spec.subject nesting_limit c.args.self.now.fuel)) c.args.line) _ _ _ (omega arith)

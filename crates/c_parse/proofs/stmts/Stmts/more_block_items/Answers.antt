@@ -4,7 +4,7 @@ use Rattle.c_parse.specs.tools.StmtParser as spec
 use Rattle.parse_law.specs.tools.Parsing.{found_and, ◌<$>◌}
 use Rattle.c_parse.proofs.Loops.{turn_first, turn_more, turn_none}
 use Rattle.c_parse.proofs.stmts.Stmts.more_block_items.Goals as goal
-use Rattle.c_parse.specs.NestingLimit.{nesting_limit}
+use Rattle.dfi_base.specs.Limits.{nesting_limit}
 
 pub loop-turn-init : goal.loop-turn-init
 loop-turn-init g c = turn_first (spec.is_open) refl (λ found. found_and found <$> spec.item nesting_limit (spec.stmt nesting_limit c.args.self.now.fuel) c.args.counter) _ _ _ (omega arith)

@@ -4,7 +4,7 @@ use Rattle.c_parse.specs.tools.StmtParser as spec
 use Rattle.parse_law.specs.tools.Parsing.{found_and, ◌<$>◌}
 use Rattle.c_parse.specs.tools.Tokens.{goes}
 use Rattle.c_parse.proofs.stmts.Stmts.more_branches.Given as goal
-use Rattle.c_parse.specs.NestingLimit.{nesting_limit}
+use Rattle.dfi_base.specs.Limits.{nesting_limit}
 
 abbrev pub invariant-loop-turn : goal.invariant-loop-turn
 invariant-loop-turn g l = spec.more_branches nesting_limit (spec.stmt nesting_limit l.self.fuel) l.counter l.fn.found l.fn.cursor ≡ turns (goes (spec.is_open)) (λ found. found_and found <$> spec.block nesting_limit (spec.stmt nesting_limit l.self.fuel) l.counter) (l.turns - l._turn) l.found l.cursor

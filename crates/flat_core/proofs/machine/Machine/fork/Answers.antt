@@ -21,4 +21,4 @@ returns-in_ok-fork-in-Some-clause-ok c = λ input h serves.
     let made = subst (λ o. MatchOption o (room_in s / k ≡ 0) (λ v. (length v.items ≡ k) × AreShares s v.items)) c.in-Some.is c.in_ok-shares.ensures in
     let here = subst (λ l. (length l ≡ k) × AreShares s l) (sym c.deref.ensures.value) made in
     forked c.args.m.now input h c.args.self.now.tree c.fork.new.self c.args.self.now.store c.args.name.0 k c.args.asked c.deref.result.now c.m.inside.code (ap (λ m. m.code) c.m.view_is)
-    c.requires.can_run serves c.requires.asks c.requires.op (sym c.is_deep.ensures ∙ c.if-is_deep.false) here.0 here.1 (c.in_ok-fork-in-Some.ensures).forks (c.in_ok-fork-in-Some.ensures).tree
+    c.requires.can_run serves c.requires.asks c.requires.op (sym c.is_deep.ensures.deep ∙ c.if-is_deep.false) here.0 here.1 (c.in_ok-fork-in-Some.ensures).forks (c.in_ok-fork-in-Some.ensures).tree

@@ -8,7 +8,7 @@ use Rattle.flat_core.proofs.machine.Machine.new.Goals as goal
 pub returns : goal.returns
 returns c =
     let t = c.in_ok-tree.tree in
-    let stack = c.root_stack.ensures in
+    let stack = c.root_stack-stack.ensures in
     let here = subst (λ s. IsBegun flat_meaning c.m.inside.code s (life_in t) t.done) stack (c.in_ok-tree.ensures).begun in
     record {
       threads = record {

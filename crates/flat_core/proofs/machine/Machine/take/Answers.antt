@@ -4,7 +4,8 @@ use Rattle.tac_ir.specs.declared.run.Op.{Op}
 use Rattle.path_law.specs.Wants.{room_in}
 use Rattle.flat_core.specs.tools.Asked.{entry_of}
 use Rattle.flat_core.proofs.Keeping.{untaken}
-use Rattle.flat_core.proofs.Telling.{is_told, takes_no_stack, told_of, replied_goes, silent_stops, block_value}
+use Rattle.flat_core.specs.Told.{is_told, takes_no_stack}
+use Rattle.flat_core.proofs.Telling.{told_of, replied_goes, silent_stops, block_value}
 use Rattle.flat_core.proofs.Performing.{takes_answered, performed, stopped}
 use Rattle.flat_core.proofs.machine.Machine.take.Goals as goal
 

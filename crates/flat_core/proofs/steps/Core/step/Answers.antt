@@ -1,6 +1,7 @@
 use Rattle.std.proofs.Common.{◌∷◌, [], ◌++◌, refl, sym, ◌∙◌, ap, subst}
 use Rattle.tac_thread.specs.Threads.{life_in, running, IsTree}
 use Rattle.tac_thread.specs.Flat.{flat_meaning}
+use Rattle.code_layout.specs.LayoutOf.{IsLayoutOf}
 use Rattle.flat_core.specs.tools.Asked.{asked_of, entry_of}
 use Rattle.flat_core.specs.Serves.{Serves}
 use Rattle.flat_core.specs.Stands.{history_of}
@@ -15,6 +16,11 @@ pub asked-requires-clause-tree : goal.asked-requires-clause-tree
 asked-requires-clause-tree c =
     let go = goes_on c.args.m.now c.requires.core.0 c.args.self.now c.requires.core.1 (sym c.is_over.ensures ∙ c.if-is_over.false) in
     subst (λ core. IsTree flat_meaning c.args.m.now.code (life_in core.threads)) (sym c.self.view_is) ((go.serves).threads).tree
+
+pub asked-requires-clause-laid : goal.asked-requires-clause-laid
+asked-requires-clause-laid c =
+    let go = goes_on c.args.m.now c.requires.core.0 c.args.self.now c.requires.core.1 (sym c.is_over.ensures ∙ c.if-is_over.false) in
+    subst (λ core. IsLayoutOf c.args.m.now.code core.store.layout) (sym c.self.view_is) ((go.serves).store).layout
 
 pub returns-in_default : goal.returns-in_default
 returns-in_default c = λ input is.

@@ -1,36 +1,61 @@
-use Rattle.std.proofs.Common.{arith, length, ap, ◌∙◌, drop}
-use Rattle.tac_ir.specs.Layout.{heap_from}
-use Rattle.heap_desk.proofs.FirstFit.{gap_among, no_gap_among, inserted_is, order_inserted, memory_alone}
+use Rattle.std.proofs.Common.{◌+◌, ◌-◌, ◌^◌, ◌<◌, arith, ap, refl, drop}
+use Rattle.tac_ir.specs.declared.module.Size.{Size}
+use Rattle.tac_ir.specs.Layout.{stack_from}
+use Rattle.heap_desk.proofs.Heaps.{opened, closed, place_found, no_place, blocks_with, heap_with}
 use Rattle.heap_desk.proofs.desk.Desk.take_room.Goals as goal
 
+short : (size : Size) → stack_from size < 2 ^ 32
+short Size.Small = omega arith
+short Size.Large = omega arith
+
 pub returns-in_default-clause-answer : goal.returns-in_default-clause-answer
-returns-in_default-clause-answer c =
-    rw (← c.self.view_is)
-    (no_gap_among heap_from c.deref.ensures.value c.heap_end.ensures c.requires c.self.invariant.0 c.in_default.ensures)
+returns-in_default-clause-answer c = rw (← c.self.view_is) (no_place (stack_from c.self.inside.size) c.args.words c.self.inside.places c.requires (opened c.self.invariant.0) c.in_default.ensures)
 
-pub insert-requires : goal.insert-requires
-insert-requires c =
-    let gap = gap_among heap_from c.deref.ensures.value c.heap_end.ensures c.requires c.self.invariant.0 c.in-Some.ensures in
-    omega (arith, gap.place, gap.within, c.deref.ensures.len, ap length c.deref.ensures.value)
+pub overflow_sub-at : goal.overflow_sub-at
+overflow_sub-at c =
+    let place = place_found (stack_from c.self.inside.size) c.args.words c.in-Some.at c.self.inside.places c.requires (opened c.self.invariant.0) c.in-Some.ensures in
+    place.first.free.low
 
-pub returns-in_err-insert-clause-answer : goal.returns-in_err-insert-clause-answer
-returns-in_err-insert-clause-answer c =
-    let gap = gap_among heap_from c.deref.ensures.value c.heap_end.ensures c.requires c.self.invariant.0 c.in-Some.ensures in
-    rw (memory_alone c.from_residual.result c.from_residual.ensures, ← c.self.view_is) (c.in-Some.gap.block.at, gap.first)
+pub overflow_cast-words : goal.overflow_cast-words
+overflow_cast-words c =
+    let place = place_found (stack_from c.self.inside.size) c.args.words c.in-Some.at c.self.inside.places c.requires (opened c.self.invariant.0) c.in-Some.ensures in
+    omega (arith, place.first.free.high, short c.self.inside.size)
 
-pub invariant_of-self-2 : goal.invariant_of-self-2
-invariant_of-self-2 c =
-    let gap = gap_among heap_from c.deref.ensures.value c.heap_end.ensures c.requires c.self.invariant.0 c.in-Some.ensures in
-    rw c.in_ok-insert.ensures.items (order_inserted _ _ _ _ _ gap, c.self.invariant.1, c.self.invariant.2)
+pub overflow_add-at : goal.overflow_add-at
+overflow_add-at c =
+    let place = place_found (stack_from c.self.inside.size) c.args.words c.in-Some.at c.self.inside.places c.requires (opened c.self.invariant.0) c.in-Some.ensures in
+    omega (arith, place.first.free.high, short c.self.inside.size)
+
+pub put-requires-clause-within : goal.put-requires-clause-within
+put-requires-clause-within c =
+    let place = place_found (stack_from c.self.inside.size) c.args.words c.in-Some.at c.self.inside.places c.requires (opened c.self.invariant.0) c.in-Some.ensures in
+    omega (arith, place.first.free.low, place.first.free.high, c.requires, (opened c.self.invariant.0).whole)
+
+pub invariant_of-self : goal.invariant_of-self
+invariant_of-self c =
+    let limit = stack_from c.self.inside.size in
+    let place = place_found limit c.args.words c.in-Some.at c.self.inside.places c.requires (opened c.self.invariant.0) c.in-Some.ensures in
+    let heap = heap_with limit c.args.words c.in-Some.at (c.in-Some.at - 8192) (c.in-Some.at + c.args.words) c.self.inside.places c.put.new.self c.requires (opened c.self.invariant.0) place
+    (omega (arith, place.first.free.low)) refl c.put.ensures in
+    (closed heap, c.self.invariant.1, c.self.invariant.2)
 
 pub returns-clause-answer : goal.returns-clause-answer
 returns-clause-answer c =
-    let gap = gap_among heap_from c.deref.ensures.value c.heap_end.ensures c.requires c.self.invariant.0 c.in-Some.ensures in
-    rw (← c.self.view_is, c.at.ensures) gap.first
+    let place = place_found (stack_from c.self.inside.size) c.args.words c.in-Some.at c.self.inside.places c.requires (opened c.self.invariant.0) c.in-Some.ensures in
+    rw (← c.self.view_is) place.first
 
 pub returns-clause-after : goal.returns-clause-after
 returns-clause-after c =
-    let gap = gap_among heap_from c.deref.ensures.value c.heap_end.ensures c.requires c.self.invariant.0 c.in-Some.ensures in
     let inside = c.self.inside in
-    rw (← c.self.view_is, c.at.ensures)
-    (ap (λ bs. record { size = inside.size; blocks = bs; rest = drop inside.read inside.input.items }) (c.in_ok-insert.ensures.items ∙ inserted_is _ _ _ _ _ gap))
+    let limit = stack_from inside.size in
+    let place = place_found limit c.args.words c.in-Some.at inside.places c.requires (opened c.self.invariant.0) c.in-Some.ensures in
+    rw (← c.self.view_is)
+    (ap (λ bs. record { size = inside.size; blocks = bs; rest = drop inside.read inside.input.items })
+    (blocks_with limit c.args.words c.in-Some.at (c.in-Some.at - 8192) (c.in-Some.at + c.args.words) inside.places c.put.new.self c.requires (opened c.self.invariant.0) place
+    (omega (arith, place.first.free.low)) refl c.put.ensures))
+
+pub first_fit-requires-clause-indexed : goal.first_fit-requires-clause-indexed
+first_fit-requires-clause-indexed c = (opened c.self.invariant.0).indexed
+
+pub put-requires-clause-indexed : goal.put-requires-clause-indexed
+put-requires-clause-indexed c = (opened c.self.invariant.0).indexed

@@ -1,6 +1,6 @@
 use Rattle.std.proofs.Common.{◌≡◌, ◌∙◌, ap, Some}
 use Rattle.tac_thread.specs.Threads.{life_in}
-use Rattle.tac_thread.proofs.Trees.{stepped, some_is, takes_reply, guest_is}
+use Rattle.tac_thread.proofs.Trees.{stepped, not_ended, some_is, takes_reply, guest_is}
 use Rattle.tac_thread.proofs.tree.Tree.feed_guest.Goals as goal
 
 pub feed-requires-clause-guest : goal.feed-requires-clause-guest
@@ -16,4 +16,9 @@ feed-requires-clause-kind g c =
 pub returns-clause-fed : goal.returns-clause-fed
 returns-clause-fed g c =
     let update = (c.get_mut.follows.holds c.feed.new.self).3 (some_is _ _ c.in-Some.ensures.value) in
-    stepped g.D.Domain.meaning _ _ _ _ _ _ _ _ _ c.self.view_is c.in-Some.ensures.value update.0 c.feed.ensures.runs c.feed.ensures.guest
+    stepped g.D.Domain.meaning _ _ _ _ _ _ _ _ c.self.view_is c.in-Some.ensures.value update.0 c.in_ok-feed.ensures.runs c.in_ok-feed.ensures.guest
+
+pub returns-clause-ended : goal.returns-clause-ended
+returns-clause-ended g c =
+    let update = (c.get_mut.follows.holds c.feed.new.self).3 (some_is _ _ c.in-Some.ensures.value) in
+    λ no_. not_ended g.D.Domain.meaning _ _ _ _ _ update.0 (c.may_have_ended.ensures no_)

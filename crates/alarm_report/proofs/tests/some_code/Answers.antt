@@ -1,7 +1,0 @@
-use Rattle.std.proofs.Common.{refl, arith}
-use Rattle.tac_ir.specs.Layout.{words_in}
-use Rattle.alarm_report.proofs.tests.some_code.Goals as goal
-
-pub returns : goal.returns
-unfolding words_in
-returns c = rw (c.in_ok-shapes.ensures, c.in_ok-globals.ensures) (record { shapes = refl; globals = omega arith })

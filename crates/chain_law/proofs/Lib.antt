@@ -1,0 +1,2 @@
+pub mod histories
+pub mod frames

@@ -1,0 +1,3 @@
+pub mod RunTree
+pub mod Frames
+pub mod Laws

@@ -1,0 +1,20 @@
+pub mod Laws
+pub mod Formats
+pub mod Digits
+pub mod Decimals
+pub mod Whole
+pub mod Turning
+pub mod Meeting
+pub mod Wording
+pub mod Spelling
+pub mod Tables
+pub mod Listing
+pub mod Pairs
+pub mod Integers
+pub mod OneWord
+pub mod Spells
+pub mod Behind
+pub mod Keyed
+pub mod Choosing
+pub mod Firsts
+mod Told

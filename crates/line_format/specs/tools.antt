@@ -1,0 +1,10 @@
+pub mod Format
+pub mod Answers
+pub mod Number
+pub mod Words
+pub mod Members
+pub mod Signed
+pub mod Keys
+pub mod Times
+pub mod Reads
+pub mod Rows

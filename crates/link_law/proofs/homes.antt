@@ -1,0 +1,4 @@
+pub mod Calls
+pub mod Callers
+pub mod Reading
+pub mod Home

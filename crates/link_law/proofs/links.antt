@@ -1,0 +1,4 @@
+pub mod Writes
+pub mod Asked
+pub mod Linking
+pub mod Along

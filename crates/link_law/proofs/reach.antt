@@ -1,0 +1,4 @@
+pub mod Moving
+pub mod Ending
+pub mod Along
+pub mod Back

@@ -1,0 +1,4 @@
+pub mod Made
+pub mod Linked
+pub mod Laws
+pub mod tools

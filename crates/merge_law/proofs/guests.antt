@@ -1,0 +1,5 @@
+pub mod Steps
+pub mod Starts
+pub mod Joining
+pub mod Tickets
+pub mod Ends

@@ -1,0 +1,4 @@
+pub mod Stops
+pub mod Merging
+pub mod Back
+pub mod Upto

@@ -1,0 +1,5 @@
+pub mod Opcodes
+pub mod Instrs
+pub mod Parts
+pub mod Keys
+pub mod Whole

@@ -1,0 +1,7 @@
+pub mod Counted
+pub mod Inside
+pub mod Outside
+pub mod Innermost
+pub mod Nested
+pub mod Leads
+pub mod Laws

@@ -1,0 +1,2 @@
+pub mod lives
+pub mod trees
