@@ -31,3 +31,7 @@ pub mod WellSizes
 pub mod WellProgram
 mod DeclaredStmts
 mod Declared
+mod SiteLevels
+mod SitesKnown
+mod SitesCounted
+mod WellSites

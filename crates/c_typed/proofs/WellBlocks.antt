@@ -21,12 +21,12 @@ use Rattle.c_typed.specs.Tags.{base}
 use Rattle.c_typed.specs.Decls as decls
 use Rattle.c_typed.specs.Decls.{local_item, local_decl, joined_lists}
 use Rattle.c_typed.specs.Stmts.{returns, block_item, body, branch_of}
-use Rattle.c_typed.specs.IsWell.{Context, Round, in_branch_of, IsExpr, IsReturned, Placed, placed, in_branches, IsStmt, AreStmts}
+use Rattle.c_typed.specs.IsWell.{Context, Round, in_branch_of, IsReturned, Placed, placed, in_branches, IsStmt, AreStmts}
 use Rattle.c_typed.proofs.Balanced.{Balanced}
 use Rattle.c_typed.proofs.WellParts.{none_some, some_is, pure_given}
-use Rattle.c_typed.proofs.WellTypes.{IsLinked}
+use Rattle.c_typed.proofs.WellTypes.{IsUsed, IsLinked}
 use Rattle.c_typed.proofs.WellExprs.{sound_base}
-use Rattle.c_typed.proofs.WellStmts.{Sound, round, round_behind, unless_none, sound_of, sound_tokens, sound_mark, sound_joined, sound_map, sound_with, stmt_made, are_append, Anywhere, AreHere, AreAnywhere, sound_valued}
+use Rattle.c_typed.proofs.WellStmts.{Sound, round, round_behind, unless_none, sound_of, sound_tokens, sound_mark, sound_joined, sound_map, sound_with, stmt_made, are_append, Anywhere, AreHere, AreAnywhere, fitting_value, sound_valued}
 
 both_true_first : (a b : Bool) → a && b ≡ true → a ≡ true
 both_true_first true b e = refl
@@ -173,7 +173,7 @@ module _ (w : Whole) (c : Context) (linked : IsLinked w c) where
   -- `return`
   abbrev pub IfExpr : Option Expr → Type 0
   IfExpr None = Unit {0}
-  IfExpr (Some e) = IsExpr c e
+  IfExpr (Some e) = IsUsed c e
 
   pub returned_known : (line : Line) (r : Round) (o : Option ObjectType) (v : Option Expr) (s : Stmt) → r.branched ≡ false → o ≡ c.result → IfExpr v → returns line o v ≡ Some s → IsStmt c r s
   returned_known line r None None s alone same is has =
@@ -181,7 +181,7 @@ module _ (w : Whole) (c : Context) (linked : IsLinked w c) where
   returned_known line r (Some t) (Some e) s alone same is has = by (fits e.typing t) refl has where
     by : (b : Bool) → fits e.typing t ≡ b → elim b as (λ b. Option Stmt) [ true ↦ Some (roll-Stmt (Stmt-F.Return line (Some e))) | false ↦ None ] ≡ Some s → IsStmt c r s
     by true fit has =
-        subst (IsStmt c r) (some_is has) (stmt_made w c r (Stmt-F.Return line (Some e)) (alone, subst (λ o. IsReturned c o (Some e)) same (is, fit)) AreStmts.none)
+        subst (IsStmt c r) (some_is has) (stmt_made w c r (Stmt-F.Return line (Some e)) (alone, subst (λ o. IsReturned c o (Some e)) same (fitting_value w c linked e e.typing t is fit, fit)) AreStmts.none)
     by false fit has = absurd (none_some has)
   returned_known line r None (Some e) s alone same is has = absurd (none_some has)
   returned_known line r (Some t) None s alone same is has = absurd (none_some has)

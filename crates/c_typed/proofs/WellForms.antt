@@ -15,13 +15,14 @@ use Rattle.c_typed.specs.declared.types.ObjectType.{ObjectType}
 use Rattle.c_typed.specs.declared.types.ExprType.{ExprType}
 use Rattle.c_typed.specs.declared.expr.Expr.{Expr}
 use Rattle.c_typed.specs.declared.expr.Form.TheOpen.{Form-F}
-use Rattle.c_typed.specs.Types.{place_of, scalar_type, scalar_by, fits}
+use Rattle.c_typed.specs.Types.{place_of, scalar_type, scalar_by, fits, accepts, accepts_some}
 use Rattle.c_typed.specs.Marks.{History, Variable, variable}
 use Rattle.c_typed.specs.Whole.{Whole, Signature, Builtin, Meaning, meaning, is_main, builtin_of, spelling}
 use Rattle.c_typed.specs.Faults.{Fault, unknown, mismatch}
 use Rattle.c_typed.specs.Parts.{Place, Part, tokens, given, obeys, refused, ◌⊗◌, ◌<⊗◌, ◌⊗>◌}
 use Rattle.c_typed.specs.Tags.{type_name}
-use Rattle.c_typed.specs.Exprs.{Layer, made, Size, Reading, value, many_of, one_of, struct_by, struct_of, struct_at, struct_behind, with_struct, known_struct, field_by, field_of, fielded, in_struct, found_by, name, name_as, all_fit, called_type, applied, asked, put_by, put, freed_by, freed, allocated, arguments, called, allocation_by, allocation, call_as, call, is_malloc, cast_by, counted_by, product, form_step, expr}
+use Rattle.c_typed.specs.Exprs
+use Rattle.c_typed.specs.Exprs.{no_value, Layer, made, Size, Reading, value, many_of, one_of, struct_by, struct_of, struct_at, struct_behind, with_struct, known_struct, field_by, field_of, fielded, in_struct, found_by, name, name_as, all_fit, called_type, applied, asked, put_by, put, freed_by, freed, allocated, arguments, called, allocation_by, allocation, call_as, call, is_malloc, cast_by, counted_by, product, form_step, expr}
 use Rattle.c_typed.specs.Decls.{is_scalar}
 use Rattle.c_typed.specs.Programs.{main_in}
 use Rattle.c_typed.specs.tools.Scopes.{scopes_of}
@@ -29,8 +30,8 @@ use Rattle.c_typed.specs.IsWell.{IsBase, IsObject, IsTyping, Context, IsField, I
 use Rattle.c_typed.proofs.Levels.{mapped_form, read_form, form_roll, expr_reads}
 use Rattle.c_typed.proofs.ScopeLaws.{variable_found}
 use Rattle.c_typed.proofs.WellParts.{none_some, some_is, IsBound, found_bound, Pure, pure_tokens, pure_given, pure_joined, pure_map, pure_obeys, pure_refused}
-use Rattle.c_typed.proofs.WellTypes.{IsLinked, scalar_typing, place_is, no_unknown, made_known, one, place_object, pointer_object, field_there}
-use Rattle.c_typed.proofs.WellExprs.{IfPure, IsExprThere, IsSize, IsSound, plainly, sound_value, sound_binary, sound_unary, sound_index, sound_type_name}
+use Rattle.c_typed.proofs.WellTypes.{IsLinked, scalar_typing, place_is, no_unknown, made_known, one, place_object, pointer_object, field_there, IsUsedAs, IsUsed, used_at, never_unknown}
+use Rattle.c_typed.proofs.WellExprs.{IfPure, IsUsedThere, all_used, IsSize, IsSound, plainly, sound_value, sound_binary, sound_unary, sound_index, sound_type_name}
 
 -- The function of a name.
 found_name : (x m : ℕ) (ms : List ℕ) (y : ℕ) (t : Bool) → nat_eq x m ≡ t → (slice_get ms (place_of x ms) ≡ Some y → y ≡ x)
@@ -136,7 +137,7 @@ module _ (w : Whole) (c : Context) (linked : IsLinked w c) where
     sound = λ here st v e. fielded_known f form (here.at + p.tokens + 1) (p.judge here).faults (p.judge here).value v (λ x has. is.sound here st x has) e;
   }
 
-  holder_at : (e : Expr) (s : ExprType) (x : Expr × Option ℕ) → IsExpr c e → e.typing ≡ s → with_struct e (struct_at s) ≡ Some x → Holds Form-F.Field x
+  holder_at : (e : Expr) (s : ExprType) (x : Expr × Option ℕ) → IsUsedAs c s e → e.typing ≡ s → with_struct e (struct_at s) ≡ Some x → Holds Form-F.Field x
   holder_at e (ExprType.Place t) x is at has = by (struct_of t) refl has where
     by : (o : Option ℕ) → struct_of t ≡ o → with_struct e (known_struct o) ≡ Some x → Holds Form-F.Field x
     by None st has = absurd (none_some has)
@@ -148,7 +149,7 @@ module _ (w : Whole) (c : Context) (linked : IsLinked w c) where
   holder_at e ExprType.Void x is at has = absurd (none_some has)
   holder_at e ExprType.Unknown x is at has = absurd (no_unknown w c linked e is at)
 
-  holder_behind : (e : Expr) (s : ExprType) (x : Expr × Option ℕ) → IsExpr c e → e.typing ≡ s → with_struct e (struct_behind s) ≡ Some x → Holds Form-F.Arrow x
+  holder_behind : (e : Expr) (s : ExprType) (x : Expr × Option ℕ) → IsUsedAs c s e → e.typing ≡ s → with_struct e (struct_behind s) ≡ Some x → Holds Form-F.Arrow x
   holder_behind e (ExprType.Pointer t) x is at has = by (struct_of t) refl has where
     by : (o : Option ℕ) → struct_of t ≡ o → with_struct e (known_struct o) ≡ Some x → Holds Form-F.Arrow x
     by None st has = absurd (none_some has)
@@ -194,54 +195,83 @@ module _ (w : Whole) (c : Context) (linked : IsLinked w c) where
   }
 
   -- Calls.
-  abbrev AllSound : List Reading → Type 0
+  abbrev pub AllSound : List Reading → Type 0
   AllSound [] = Unit {0}
   AllSound (r ∷ rs) = IsSound w c r × AllSound rs
 
-  sound_arguments : (rs : List Reading) → AllSound rs → Pure w c (arguments rs) (AreExprs c)
-  sound_arguments [] all = pure_given w c [] none
+  abbrev pub AreUsed : List Expr → Type 0
+  AreUsed [] = Unit {0}
+  AreUsed (e ∷ es) = IsUsed c e × AreUsed es
+
+  sound_arguments : (rs : List Reading) → AllSound rs → Pure w c (arguments rs) AreUsed
+  sound_arguments [] all = pure_given w c {Q = AreUsed} [] tt
   sound_arguments (r ∷ []) all =
-      pure_joined w c (λ a rest. a ∷ rest) (value r) (given []) {Q = AreExprs c} (sound_value w c linked r all.0) (pure_given w c [] none) (λ e es is that. each e es is that)
+      pure_joined w c (λ a rest. a ∷ rest) (value r) (given []) {Q = AreUsed} {R = AreUsed} (sound_value w c linked r all.0) (pure_given w c {Q = AreUsed} [] tt) (λ e es is that. (is, that))
   sound_arguments (r ∷ s ∷ rs) all =
-      pure_joined w c (λ a rest. a ∷ rest) (value r <⊗ tokens 1) (arguments (s ∷ rs))
-      (pure_joined w c (λ a b. a) (value r) (tokens 1) {R = IsExpr c} (sound_value w c linked r all.0) (pure_tokens w c 1) (λ a b x y. x)) (sound_arguments (s ∷ rs) all.1) (λ e es is that. each e es is that)
+      pure_joined w c (λ a rest. a ∷ rest) (value r <⊗ tokens 1) (arguments (s ∷ rs)) {R = AreUsed}
+      (pure_joined w c (λ a b. a) (value r) (tokens 1) {R = IsUsed c} (sound_value w c linked r all.0) (pure_tokens w c 1) (λ a b x y. x)) (sound_arguments (s ∷ rs) all.1) (λ e es is that. (is, that))
 
   sound_called : {A : Type 0} (p : Part A) (Q : A → Type 0) → Pure w c p Q → Pure w c (called p) Q
   sound_called p Q is =
       pure_joined w c (λ a b. a) (tokens 2 ⊗> p) (tokens 1) {R = Q} (pure_joined w c (λ a b. b) (tokens 2) p {R = Q} (pure_tokens w c 2) is (λ a b x y. y)) (pure_tokens w c 1) (λ a b x y. x)
 
-  first_known : (e : Expr) (es : List Expr) → AreExprs c (e ∷ es) → IsExpr c e
-  first_known e es (each f fs is all) = is
-
   asked_known : (layer : Layer) (es : List Expr) (v : Expr) → IsLayer c ExprType.Int layer → AreExprs c (operands_of layer) → asked layer es ≡ Some v → IsExpr c v
   asked_known layer [] v is all has = subst (IsExpr c) (some_is has) (made_known w c linked ExprType.Int layer tt is all)
   asked_known layer (e ∷ es) v is all has = absurd (none_some has)
 
-  put_known : (e : Expr) (s : ExprType) (v : Expr) → IsExpr c e → e.typing ≡ s → put_by e s ≡ Some v → IsExpr c v
-  put_known e ExprType.Int v is at has = subst (IsExpr c) (some_is has) (made_known w c linked ExprType.Void (Form-F.PutInt e) tt (at, refl) (one w c linked e is))
+  -- what `putint` and `free` take
+  put_known : (e : Expr) (s : ExprType) (v : Expr) → IsUsedAs c s e → e.typing ≡ s → put_by e s ≡ Some v → IsExpr c v × (v.typing ≡ ExprType.Int)
+  put_known e ExprType.Int v is at has = subst (λ v. IsExpr c v × (v.typing ≡ ExprType.Int)) (some_is has) (is, at)
   put_known e (ExprType.Place t) v is at has = absurd (none_some has)
   put_known e ExprType.Null v is at has = absurd (none_some has)
   put_known e (ExprType.Pointer t) v is at has = absurd (none_some has)
   put_known e ExprType.Void v is at has = absurd (none_some has)
   put_known e ExprType.Unknown v is at has = absurd (no_unknown w c linked e is at)
 
-  puts_known : (es : List Expr) (v : Expr) → AreExprs c es → put es ≡ Some v → IsExpr c v
+  pub puts_known : (es : List Expr) (v : Expr) → AreUsed es → put es ≡ Some v → IsExpr c v × (v.typing ≡ ExprType.Int)
   puts_known [] v all has = absurd (none_some has)
-  puts_known (e ∷ []) v all has = put_known e e.typing v (first_known e [] all) refl has
+  puts_known (e ∷ []) v all has = put_known e e.typing v all.0 refl has
   puts_known (e ∷ f ∷ es) v all has = absurd (none_some has)
 
-  freed_known : (e : Expr) (s : ExprType) (v : Expr) → IsExpr c e → e.typing ≡ s → freed_by e s ≡ Some v → IsExpr c v
-  freed_known e (ExprType.Pointer t) v is at has = subst (IsExpr c) (some_is has) (made_known w c linked ExprType.Void (Form-F.Free e) tt (subst IsFreed (sym at) tt, refl) (one w c linked e is))
-  freed_known e ExprType.Null v is at has = subst (IsExpr c) (some_is has) (made_known w c linked ExprType.Void (Form-F.Free e) tt (subst IsFreed (sym at) tt, refl) (one w c linked e is))
+  freed_known : (e : Expr) (s : ExprType) (v : Expr) → IsUsedAs c s e → e.typing ≡ s → freed_by e s ≡ Some v → IsExpr c v × IsFreed v.typing
+  freed_known e (ExprType.Pointer t) v is at has = subst (λ v. IsExpr c v × IsFreed v.typing) (some_is has) (is, subst IsFreed (sym at) tt)
+  freed_known e ExprType.Null v is at has = subst (λ v. IsExpr c v × IsFreed v.typing) (some_is has) (is, subst IsFreed (sym at) tt)
   freed_known e (ExprType.Place t) v is at has = absurd (none_some has)
   freed_known e ExprType.Int v is at has = absurd (none_some has)
   freed_known e ExprType.Void v is at has = absurd (none_some has)
   freed_known e ExprType.Unknown v is at has = absurd (no_unknown w c linked e is at)
 
-  frees_known : (es : List Expr) (v : Expr) → AreExprs c es → freed es ≡ Some v → IsExpr c v
+  pub frees_known : (es : List Expr) (v : Expr) → AreUsed es → freed es ≡ Some v → IsExpr c v × IsFreed v.typing
   frees_known [] v all has = absurd (none_some has)
-  frees_known (e ∷ []) v all has = freed_known e e.typing v (first_known e [] all) refl has
+  frees_known (e ∷ []) v all has = freed_known e e.typing v all.0 refl has
   frees_known (e ∷ f ∷ es) v all has = absurd (none_some has)
+
+  -- each argument has a value
+  void_fits : (t : ObjectType) (o : Option ExprType) → accepts_some ExprType.Void o ≡ true → ⊥
+  void_fits t None e = subst IsFalse' e tt
+  void_fits t (Some s) e = subst IsFalse' e tt
+
+  accepted : (e : Expr) (s : ExprType) (t : ObjectType) → IsUsedAs c s e → accepts s t ≡ true → IsExpr c e
+  accepted e ExprType.Void t is fit = absurd (void_fits t (scalar_type t) fit)
+  accepted e (ExprType.Place o) t is fit = is
+  accepted e ExprType.Int t is fit = is
+  accepted e ExprType.Null t is fit = is
+  accepted e (ExprType.Pointer o) t is fit = is
+  accepted e ExprType.Unknown t is fit = is
+
+  both_first : (a b : Bool) → a && b ≡ true → a ≡ true
+  both_first true b e = refl
+  both_first false b e = absurd (subst IsFalse' e tt)
+
+  both_second : (a b : Bool) → a && b ≡ true → b ≡ true
+  both_second true b e = e
+  both_second false b e = absurd (subst IsFalse' e tt)
+
+  fitting : (es : List Expr) (ts : List ObjectType) → AreUsed es → all_fit es ts ≡ true → AreExprs c es
+  fitting [] ts all fit = none
+  fitting (e ∷ es) [] all fit = absurd (subst IsFalse' fit tt)
+  fitting (e ∷ es) (t ∷ ts) all fit =
+      each e es (accepted e e.typing t all.0 (both_first (accepts e.typing t) (all_fit es ts) fit)) (fitting es ts all.1 (both_second (accepts e.typing t) (all_fit es ts) fit))
 
   scalar_result : (t : ObjectType) (ls : List ℕ) (o : Option ExprType) → IsBase c.structs t.base → elim o as (λ o. Bool) [ None ↦ false | Some v ↦ true ] ≡ true → scalar_by t ls ≡ o
       → IsTyping c.structs (elim o as (λ o. ExprType) [ None ↦ ExprType.Unknown | Some v ↦ v ])
@@ -258,38 +288,38 @@ module _ (w : Whole) (c : Context) (linked : IsLinked w c) where
       let there = subst (λ k. slice_get w.functions k ≡ Some s) (at ∙ linked.main) is.there in
       subst IsFalse' (sym no_main ∙ ap (is_main w) (sym is.named) ∙ main_found w w.functions s there) tt
 
-  applied_known : (k : ℕ) (s : Signature) (es : List Expr) (v : Expr) (t : Bool) → slice_get w.functions k ≡ Some s → k ≢ c.main → AreExprs c es → all_fit es s.parameters ≡ t
+  applied_known : (k : ℕ) (s : Signature) (es : List Expr) (v : Expr) (t : Bool) → slice_get w.functions k ≡ Some s → k ≢ c.main → AreUsed es → all_fit es s.parameters ≡ t
       → elim t as (λ t. Option Expr) [ true ↦ Some (made (called_type s.result) (Form-F.Call k es)) | false ↦ None ] ≡ Some v → IsExpr c v
   applied_known k s es v true there other all fit has =
       subst (IsExpr c) (some_is has)
       (made_known w c linked (called_type s.result) (Form-F.Call k es) (result_typing s.result (λ t at. linked.results k s t there at))
-      (record { callee = record { result = s.result; parameters = s.parameters }; there = linked.functions k s there; other = other; fit = fit; typing = refl }) all)
+      (record { callee = record { result = s.result; parameters = s.parameters }; there = linked.functions k s there; other = other; fit = fit; typing = refl }) (fitting es s.parameters all fit))
   applied_known k s es v false there other all fit has = absurd (none_some has)
 
   -- `malloc`
-  new_known : (s : Size) (v : Expr) → IsSize c s → IsCount s.count → Some (made (ExprType.Pointer s.item) (Form-F.New s.item s.count)) ≡ Some v → IsExpr c v
+  new_known : (s : Size) (v : Expr) → IsSize c s → IsCount s.count → Some (made (ExprType.Pointer s.item) (Form-F.New 0 s.item s.count)) ≡ Some v → IsExpr c v
   new_known s v is count has =
-      subst (IsExpr c) (some_is has) (made_known w c linked (ExprType.Pointer s.item) (Form-F.New s.item s.count) is.item (count, refl) (there s.count is.count)) where
-        there : (o : Option Expr) → IsExprThere c o → AreExprs c (operand_there o)
-        there None is = none
-        there (Some e) is = one w c linked e is
+      subst (IsExpr c) (some_is has) (made_known w c linked (ExprType.Pointer s.item) (Form-F.New 0 s.item s.count) is.item (count, refl) (there s.count is.count count)) where
+        there : (o : Option Expr) → IsUsedThere c o → IsCount o → AreExprs c (operand_there o)
+        there None is at = none
+        there (Some e) is at = one w c linked e (used_at c e ExprType.Int is at)
 
   allocated_known : (item : ObjectType) (o : Option Expr) (v : Expr) → IsSize c (record { item = item; count = o }) → allocated (record { item = item; count = o }) ≡ Some v → IsExpr c v
   allocated_known item None v is has = new_known (record { item = item; count = None }) v is tt has
   allocated_known item (Some n) v is has = by n.typing refl has where
     by : (s : ExprType) → n.typing ≡ s
-        → elim s as (λ s. Option Expr) [ ExprType.Int ↦ Some (made (ExprType.Pointer item) (Form-F.New item (Some n))) | ExprType.Unknown ↦ Some (made (ExprType.Pointer item) (Form-F.New item (Some n))) | _ ↦ None ] ≡ Some v → IsExpr c v
+        → elim s as (λ s. Option Expr) [ ExprType.Int ↦ Some (made (ExprType.Pointer item) (Form-F.New 0 item (Some n))) | ExprType.Unknown ↦ Some (made (ExprType.Pointer item) (Form-F.New 0 item (Some n))) | _ ↦ None ] ≡ Some v → IsExpr c v
     by ExprType.Int at has = new_known (record { item = item; count = Some n }) v is at has
     by (ExprType.Place t) at has = absurd (none_some has)
     by ExprType.Null at has = absurd (none_some has)
     by (ExprType.Pointer t) at has = absurd (none_some has)
     by ExprType.Void at has = absurd (none_some has)
-    by ExprType.Unknown at has = absurd (no_unknown w c linked n is.count at)
+    by ExprType.Unknown at has = absurd (never_unknown w c linked n is.count at)
 
-  called_arguments : (rs : List Reading) → AllSound rs → Pure w c (called (arguments rs)) (AreExprs c)
-  called_arguments rs all = sound_called (arguments rs) (AreExprs c) (sound_arguments rs all)
+  called_arguments : (rs : List Reading) → AllSound rs → Pure w c (called (arguments rs)) AreUsed
+  called_arguments rs all = sound_called (arguments rs) AreUsed (sound_arguments rs all)
 
-  sound_allocation : (line : Line) (rs : List Reading) → AllSound rs → Pure w c (allocation line rs) (IsExpr c)
+  pub sound_allocation : (line : Line) (rs : List Reading) → AllSound rs → Pure w c (allocation line rs) (IsExpr c)
   sound_allocation line [] all = pure_refused w c mismatch line (called (arguments [])) refl
   sound_allocation line (r ∷ []) all = by r.size all.0.size where
     by : (o : Option (Part Size)) → IfPure w c o (IsSize c) → Pure w c (allocation_by line (r ∷ []) o) (IsExpr c)
@@ -304,39 +334,64 @@ module _ (w : Whole) (c : Context) (linked : IsLinked w c) where
       pure_obeys w c mismatch line (λ h es. applied k s es) (called (arguments rs)) (called_arguments rs all)
       (λ h es v st es_is has. applied_known k s es v (all_fit es s.parameters) is.there (not_main f.name k s is at) es_is refl has)
 
-  call_known : (line : Line) (f : Ident) (rs : List Reading) (m : Meaning) → AllSound rs → ((k : ℕ) (s : Signature) → m ≡ Meaning.function k s → IsFunctionOf w f.name k s) → Pure w c (call_as w line f rs m) (IsExpr c)
-  call_known line f rs (Meaning.object v) all is = pure_refused w c mismatch f.line (called (arguments rs)) (called_arguments rs all).quiet
-  call_known line f rs Meaning.nothing all is = pure_refused w c unknown f.line (called (arguments rs)) (called_arguments rs all).quiet
-  call_known line f rs (Meaning.function k s) all is = call_by line f rs k s (is_main w f.name) all (is k s refl) refl
-  call_known line f rs (Meaning.builtin Builtin.getint) all is =
-      pure_obeys w c mismatch line (λ h es. asked Form-F.GetInt es) _ (called_arguments rs all) (λ h es v st es_is has. asked_known Form-F.GetInt es v refl none has)
-  call_known line f rs (Meaning.builtin Builtin.left) all is =
-      pure_obeys w c mismatch line (λ h es. asked Form-F.Left es) _ (called_arguments rs all) (λ h es v st es_is has. asked_known Form-F.Left es v refl none has)
-  call_known line f rs (Meaning.builtin Builtin.putint) all is =
-      pure_obeys w c mismatch line (λ h es. put es) _ (called_arguments rs all) (λ h es v st es_is has. puts_known es v es_is has)
-  call_known line f rs (Meaning.builtin Builtin.free) all is =
-      pure_obeys w c mismatch line (λ h es. freed es) _ (called_arguments rs all) (λ h es v st es_is has. frees_known es v es_is has)
-  call_known line f rs (Meaning.builtin Builtin.malloc) all is = sound_allocation line rs all
+  abbrev pub IsFound : Ident → Meaning → Type 0
+  IsFound f m = (k : ℕ) (s : Signature) → m ≡ Meaning.function k s → IsFunctionOf w f.name k s
 
-  sound_call : (line : Line) (f : Ident) (rs : List Reading) → AllSound rs → Pure w c (call w line f rs) (IsExpr c)
+  -- a call of what has a value, or of a function of the text
+  pub sound_object_call : (line : Line) (f : Ident) (rs : List Reading) (v : Variable) → AllSound rs → Pure w c (call_as w line f rs (Meaning.object v)) (IsExpr c)
+  sound_object_call line f rs v all = pure_refused w c mismatch f.line (called (arguments rs)) (called_arguments rs all).quiet
+
+  pub sound_nothing_call : (line : Line) (f : Ident) (rs : List Reading) → AllSound rs → Pure w c (call_as w line f rs Meaning.nothing) (IsExpr c)
+  sound_nothing_call line f rs all = pure_refused w c unknown f.line (called (arguments rs)) (called_arguments rs all).quiet
+
+  pub sound_function_call : (line : Line) (f : Ident) (rs : List Reading) (k : ℕ) (s : Signature) → AllSound rs → IsFound f (Meaning.function k s) → Pure w c (call_as w line f rs (Meaning.function k s)) (IsExpr c)
+  sound_function_call line f rs k s all is = call_by line f rs k s (is_main w f.name) all (is k s refl) refl
+
+  pub sound_asked : (line : Line) (f : Ident) (rs : List Reading) (layer : Layer) → IsLayer c ExprType.Int layer → AreExprs c (operands_of layer) → AllSound rs
+      → Pure w c (obeys mismatch line (λ h es. asked layer es) (called (arguments rs))) (IsExpr c)
+  sound_asked line f rs layer is all_is all = pure_obeys w c mismatch line (λ h es. asked layer es) _ (called_arguments rs all) (λ h es v st es_is has. asked_known layer es v is all_is has)
+
+  pub sound_put : (line : Line) (rs : List Reading) → AllSound rs → Pure w c (obeys mismatch line (λ h es. put es) (called (arguments rs))) (λ e. IsExpr c e × (e.typing ≡ ExprType.Int))
+  sound_put line rs all = pure_obeys w c mismatch line (λ h es. put es) _ (called_arguments rs all) (λ h es v st es_is has. puts_known es v es_is has)
+
+  pub sound_free : (line : Line) (rs : List Reading) → AllSound rs → Pure w c (obeys mismatch line (λ h es. freed es) (called (arguments rs))) (λ e. IsExpr c e × IsFreed e.typing)
+  sound_free line rs all = pure_obeys w c mismatch line (λ h es. freed es) _ (called_arguments rs all) (λ h es v st es_is has. frees_known es v es_is has)
+
+  pub sound_getint : (line : Line) (f : Ident) (rs : List Reading) → AllSound rs → Pure w c (call_as w line f rs (Meaning.builtin Builtin.getint)) (IsExpr c)
+  sound_getint line f rs all = sound_asked line f rs Form-F.GetInt refl none all
+
+  pub sound_left : (line : Line) (f : Ident) (rs : List Reading) → AllSound rs → Pure w c (call_as w line f rs (Meaning.builtin Builtin.left)) (IsExpr c)
+  sound_left line f rs all = sound_asked line f rs Form-F.Left refl none all
+
+  call_used : (line : Line) (f : Ident) (rs : List Reading) (m : Meaning) → AllSound rs → IsFound f m → Pure w c (call_as w line f rs m) (IsUsed c)
+  call_used line f rs (Meaning.object v) all is = all_used w c linked _ (sound_object_call line f rs v all)
+  call_used line f rs Meaning.nothing all is = all_used w c linked _ (sound_nothing_call line f rs all)
+  call_used line f rs (Meaning.function k s) all is = all_used w c linked _ (sound_function_call line f rs k s all is)
+  call_used line f rs (Meaning.builtin Builtin.getint) all is = all_used w c linked _ (sound_getint line f rs all)
+  call_used line f rs (Meaning.builtin Builtin.left) all is = all_used w c linked _ (sound_left line f rs all)
+  call_used line f rs (Meaning.builtin Builtin.putint) all is = pure_map w c (λ _. no_value) _ {Q = IsUsed c} (sound_put line rs all) (λ e is. tt)
+  call_used line f rs (Meaning.builtin Builtin.free) all is = pure_map w c (λ _. no_value) _ {Q = IsUsed c} (sound_free line rs all) (λ e is. tt)
+  call_used line f rs (Meaning.builtin Builtin.malloc) all is = all_used w c linked _ (sound_allocation line rs all)
+
+  sound_call : (line : Line) (f : Ident) (rs : List Reading) → AllSound rs → Pure w c (call w line f rs) (IsUsed c)
   sound_call line f rs all = record {
     quiet = refl;
-    sound = λ here st v has. (call_known line f rs (meaning w here.before f.name) all (λ k s e. function_meant w here.before f.name k s e)).sound here st v has;
+    sound = λ here st v has. (call_used line f rs (meaning w here.before f.name) all (λ k s e. function_meant w here.before f.name k s e)).sound here st v has;
   }
 
   -- Casts, and `malloc`'s size.
-  cast_when : (e v : Expr) (t : Bool) → IsExpr c e → elim t as (λ t. Option Expr) [ true ↦ Some e | false ↦ None ] ≡ Some v → IsExpr c v
-  cast_when e v true is has = subst (IsExpr c) (some_is has) is
+  cast_when : (e v : Expr) (t : Bool) → IsUsed c e → elim t as (λ t. Option Expr) [ true ↦ Some e | false ↦ None ] ≡ Some v → IsUsed c v
+  cast_when e v true is has = subst (IsUsed c) (some_is has) is
   cast_when e v false is has = absurd (none_some has)
 
-  cast_known : (h : History) (o : Option ℕ) (t : ObjectType) (e v : Expr) → IsExpr c e → cast_by w h o t e ≡ Some v → IsExpr c v
+  cast_known : (h : History) (o : Option ℕ) (t : ObjectType) (e v : Expr) → IsUsed c e → cast_by w h o t e ≡ Some v → IsUsed c v
   cast_known h None t e v is has = absurd (none_some has)
   cast_known h (Some f) t e v is has = cast_when e v (is_malloc (meaning w h f) && fits e.typing t) is has
 
   sound_counted : (l r : Reading) (o p : Option (Part ObjectType)) → IsSound w c l → IsSound w c r → IfPure w c o (IsObject c.structs) → IfPure w c p (IsObject c.structs)
       → IfPure w c (counted_by l r o p) (IsSize c)
   sound_counted l r o (Some p) left right is that =
-      pure_joined w c many_of (value l <⊗ tokens 1) p (pure_joined w c (λ a b. a) (value l) (tokens 1) {R = IsExpr c} (sound_value w c linked l left) (pure_tokens w c 1) (λ a b x y. x)) that
+      pure_joined w c many_of (value l <⊗ tokens 1) p (pure_joined w c (λ a b. a) (value l) (tokens 1) {R = IsUsed c} (sound_value w c linked l left) (pure_tokens w c 1) (λ a b x y. x)) that
       (λ e t e_is t_is. record { item = t_is; count = e_is })
   sound_counted l r (Some p) None left right is that =
       pure_joined w c (λ t e. many_of e t) (p <⊗ tokens 1) (value r) (pure_joined w c (λ a b. a) p (tokens 1) {R = IsObject c.structs} is (pure_tokens w c 1) (λ a b x y. x)) (sound_value w c linked r right)
@@ -351,6 +406,9 @@ module _ (w : Whole) (c : Context) (linked : IsLinked w c) where
   sound_sizeof t =
       pure_joined w c (λ a b. a) (tokens 2 ⊗> type_name w t) (tokens 1) {R = IsObject c.structs}
       (pure_joined w c (λ a b. b) (tokens 2) (type_name w t) {R = IsObject c.structs} (pure_tokens w c 2) (sound_type_name w c linked t) (λ a b x y. y)) (pure_tokens w c 1) (λ a b x y. x)
+
+  used_plainly : (line : Line) (p : Part Expr) → Pure w c p (IsUsed c) → IsSound w c (Exprs.reading line p)
+  used_plainly line p is = record { plain = is; sizeof = tt; size = tt }
 
   -- One level, with what is known of each operand beside it.
   abbrev FormSound : SourceForm → Type 0
@@ -371,15 +429,15 @@ module _ (w : Whole) (c : Context) (linked : IsLinked w c) where
 
   level_sound : (line : Line) (y : Source KnownForm Known) → IsSound w c (form_step w (mapped_form w (map-Form KnownForm Known SourceForm SourceExpr (λ f. f.0) (λ e. e.0) y)) line)
   level_sound line (Source.Binary l op r) = record {
-    plain = sound_binary w c linked line op (expr w l.0) (expr w r.0) l.1 r.1;
+    plain = all_used w c linked _ (sound_binary w c linked line op (expr w l.0) (expr w r.0) l.1 r.1);
     sizeof = tt;
     size = sound_product op (expr w l.0) (expr w r.0) l.1 r.1;
   }
   level_sound line (Source.Unary op x) = plainly w c linked line _ (sound_unary w c linked op line (expr w x.0) x.1)
   level_sound line (Source.Cast to x) =
-      plainly w c linked line _
+      used_plainly line _
       (pure_obeys w c mismatch line (λ h e. cast_by w h (expr w x.0).calls e.0 e.1) (tokens 1 ⊗> type_name w to <⊗ tokens 1 ⊗ value (expr w x.0))
-      (pure_joined w c (λ a b. (a, b)) (tokens 1 ⊗> type_name w to <⊗ tokens 1) (value (expr w x.0)) {R = λ p. IsExpr c p.1}
+      (pure_joined w c (λ a b. (a, b)) (tokens 1 ⊗> type_name w to <⊗ tokens 1) (value (expr w x.0)) {R = λ p. IsUsed c p.1}
       (pure_joined w c (λ a b. a) (tokens 1 ⊗> type_name w to) (tokens 1) {R = IsObject c.structs}
       (pure_joined w c (λ a b. b) (tokens 1) (type_name w to) {R = IsObject c.structs} (pure_tokens w c 1) (sound_type_name w c linked to) (λ a b x y. y)) (pure_tokens w c 1) (λ a b x y. x))
       (sound_value w c linked (expr w x.0) x.1) (λ a b x y. y))
@@ -407,10 +465,6 @@ module _ (w : Whole) (c : Context) (linked : IsLinked w c) where
       (λ x y is line. subst (λ r. IsSound w c r) (sym (form_roll w line x)) (subst (λ x. IsSound w c (form_step w (mapped_form w x) line)) is (level_sound line y)))
       (λ x y is. subst (λ x. IsSound w c (expr w (record { line = x.line; form = x.form }))) is (subst (λ r. IsSound w c r) (sym (expr_reads w y.line y.form.0)) (y.form.1 y.line)))
 
-  all_are_sound : (es : List SourceExpr) → AllSound (map (expr w) es)
+  pub all_are_sound : (es : List SourceExpr) → AllSound (map (expr w) es)
   all_are_sound [] = tt
   all_are_sound (e ∷ es) = (sound e, all_are_sound es)
-
-  -- a call as a statement
-  pub sound_call_of : (line : Line) (f : Ident) (es : List SourceExpr) → Pure w c (call w line f (map (expr w) es)) (IsExpr c)
-  sound_call_of line f es = sound_call line f (map (expr w) es) (all_are_sound es)

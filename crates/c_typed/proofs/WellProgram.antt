@@ -24,8 +24,11 @@ use Rattle.c_typed.proofs.WellSizes.{HasWords, words_all, sizes_positive, all_so
 use Rattle.c_typed.proofs.WellMain.{mains_plain, main_there}
 use Rattle.c_typed.proofs.WellTexts.{objects_same}
 use Rattle.c_typed.proofs.Declared.{items_declare}
+use Rattle.c_typed.specs.Sites.{numbered}
+use Rattle.c_typed.proofs.SitesCounted.{numbered_sites}
+use Rattle.c_typed.proofs.WellSites.{numbered_of, functions_stay, few_stay, declared_stay, main_stays}
 use Rattle.c_typed.proofs.WellTyped as typed
-use Rattle.c_typed.proofs.WellTyped.{limits_of, typed_globals, typed_tabled, typed_functions, typed_global_words, typed_few_functions}
+use Rattle.c_typed.proofs.WellTyped.{plain_of, limits_of, typed_globals, typed_tabled, typed_functions, typed_global_words, typed_few_functions}
 
 -- what holds of each list of members, or of each size, holds of the structs of them
 by_fields : (P : List ObjectType → Type 0) (sizes : List ℕ) (ss : List (List Member)) → AllOf (λ (ms : List Member). P (map (λ m. m.object) ms)) ss → AllOf (λ (d : Struct). P d.fields) (struct_by sizes ss)
@@ -56,7 +59,7 @@ module _ (a : Ast) (built : IsBuilt a.items a.names) (keeps : faults_of a ≡ []
   w = whole_of a.names a.items
 
   abbrev t : Typed
-  t = typed_of a
+  t = plain_of a
 
   abbrev shape : IsShaped w t.structs
   shape = typed.shape a keeps
@@ -102,15 +105,16 @@ module _ (a : Ast) (built : IsBuilt a.items a.names) (keeps : faults_of a ≡ []
       let few = built.few in
       omega (arith, globals, functions, all, few)
 
-  program_well : IsWell t
+  program_well : IsWell (typed_of a)
   program_well = record {
     structs = struct_well;
     globals = all_from (IsGlobal t.structs) t.globals (all_at (IsGlobal t.structs) t.globals (typed_globals a keeps));
     global_words = typed_global_words a keeps;
-    functions = all_from (IsFunction t) t.functions (all_at (IsFunction t) t.functions (typed_functions a keeps));
-    few_functions = typed_few_functions a keeps;
-    few_declarations = few_declared;
-    main = main_well;
+    functions = all_from (IsFunction (numbered_of t)) (numbered t.functions) (all_at (IsFunction (numbered_of t)) (numbered t.functions) (functions_stay t (typed_functions a keeps)));
+    few_functions = few_stay t (typed_few_functions a keeps);
+    few_declarations = declared_stay t few_declared;
+    sites = numbered_sites t.functions;
+    main = main_stays t main_well;
   }
 
 pub typed_well : (t : Typed) → IsTyped t → IsWell t

@@ -23,13 +23,13 @@ use Rattle.c_typed.specs.Parts.{Place, Part, marked, tokens, mark, joined, behin
 use Rattle.c_typed.specs.Exprs
 use Rattle.c_typed.specs.Exprs.{made, Size, Reading, value, place, expr, call, call_as, applied, asked, put, put_by, freed, freed_by, allocated, allocation, allocation_by, arguments, called, all_fit}
 use Rattle.c_typed.specs.Decls.{declared, starts_with, valued}
-use Rattle.c_typed.specs.Stmts.{tested, condition, assigned, assigns_scalar, scalar_at, counted, simple, step}
+use Rattle.c_typed.specs.Stmts.{call_by, call_stmt, tested, condition, assigned, assigns_scalar, scalar_at, counted, simple, step}
 use Rattle.c_typed.specs.IsWell.{Context, Round, IsExpr, AreExprs, IsCondition, IsTarget, is_call, is_simple, IsStmtLayer, placed, stmts_of, IsStmt, AreStmts, known, each}
 use Rattle.c_typed.proofs.Balanced.{Balanced, around_behind}
 use Rattle.c_typed.proofs.WellParts.{none_some, some_is, none_each, none_first, none_second, Stands, Kept, kept_first, kept_second, stands_behind, both_are, changed_is, ruled_is, ruled_faults, Pure, pure_tokens, pure_joined, pure_map, pure_obeys}
-use Rattle.c_typed.proofs.WellTypes.{IsLinked, made_known}
-use Rattle.c_typed.proofs.WellExprs.{sound_value, sound_place}
-use Rattle.c_typed.proofs.WellForms.{sound, sound_call_of}
+use Rattle.c_typed.proofs.WellTypes.{IsUsedAs, IsUsed, IsLinked, made_known}
+use Rattle.c_typed.proofs.WellExprs.{false_is, truth_value, sound_value, sound_place}
+use Rattle.c_typed.proofs.WellForms.{AllSound, IsFound, function_meant, all_are_sound, sound, sound_object_call, sound_nothing_call, sound_function_call, sound_getint, sound_left, sound_put, sound_free, sound_allocation}
 
 -- Parts whose variables are those of the context, with no fault: their value is so, by what stands before them.
 pub record Sound (w : Whole) (c : Context) {A : Type 0} (p : Part A) (Q : History → A → Type 0) : Type 0 where
@@ -141,6 +141,24 @@ counted_simple line layer p here s is has =
     let v = ruled_is mismatch line (λ e. counted e (layer e)) here.at j.faults j.value s has in
     simple_counted (layer v.value) (scalar_at v.value.typing) s (is v.value) v.kept
 
+layer_simple : (layer : Expr → Stmt-F Stmt) (p : Part Expr) (here : Place) (s : Stmt) → ((e : Expr) → is_simple (layer e) ≡ true)
+    → (((λ e. roll-Stmt (layer e)) <$> p).judge here).value ≡ Some s → IsSimple s
+layer_simple layer p here s is has =
+    let v = changed_is (λ e. roll-Stmt (layer e)) (p.judge here).value s has in
+    simple_made (layer v.value) s (is v.value) v.whole
+
+call_simple : (w : Whole) (f : Ident) (rs : List Reading) (m : Meaning) (here : Place) (s : Stmt) → ((call_by w f rs m).judge here).value ≡ Some s → IsSimple s
+call_simple w f rs (Meaning.object v) here s has = layer_simple (λ e. Stmt-F.Call f.line e) (call_as w f.line f rs (Meaning.object v)) here s (λ e. refl) has
+call_simple w f rs Meaning.nothing here s has = layer_simple (λ e. Stmt-F.Call f.line e) (call_as w f.line f rs Meaning.nothing) here s (λ e. refl) has
+call_simple w f rs (Meaning.function k g) here s has = layer_simple (λ e. Stmt-F.Call f.line e) (call_as w f.line f rs (Meaning.function k g)) here s (λ e. refl) has
+call_simple w f rs (Meaning.builtin Builtin.getint) here s has = layer_simple (λ e. Stmt-F.Call f.line e) (call_as w f.line f rs (Meaning.builtin Builtin.getint)) here s (λ e. refl) has
+call_simple w f rs (Meaning.builtin Builtin.left) here s has = layer_simple (λ e. Stmt-F.Call f.line e) (call_as w f.line f rs (Meaning.builtin Builtin.left)) here s (λ e. refl) has
+call_simple w f rs (Meaning.builtin Builtin.putint) here s has =
+    layer_simple (λ e. Stmt-F.PutInt f.line e) (obeys mismatch f.line (λ h es. put es) (called (arguments rs))) here s (λ e. refl) has
+call_simple w f rs (Meaning.builtin Builtin.free) here s has =
+    layer_simple (λ e. Stmt-F.Free f.line e) (obeys mismatch f.line (λ h es. freed es) (called (arguments rs))) here s (λ e. refl) has
+call_simple w f rs (Meaning.builtin Builtin.malloc) here s has = layer_simple (λ e. Stmt-F.Call f.line e) (call_as w f.line f rs (Meaning.builtin Builtin.malloc)) here s (λ e. refl) has
+
 simple_is : (w : Whole) (t : Simple) (here : Place) (s : Stmt) → ((simple w t).judge here).value ≡ Some s → IsSimple s
 simple_is w (Simple.Assign line target op v) here s has =
     let j = (place (expr w target) <⊗ tokens 1 ⊗ value (expr w v)).judge here in
@@ -150,9 +168,7 @@ simple_is w (Simple.Increment line target) here s has = counted_simple line (λ 
 simple_is w (Simple.Decrement line target) here s has = counted_simple line (λ e. Stmt-F.Decrement line e) (place (expr w target) <⊗ tokens 1) here s (λ e. refl) has
 simple_is w (Simple.PreIncrement line target) here s has = counted_simple line (λ e. Stmt-F.Increment line e) (tokens 1 ⊗> place (expr w target)) here s (λ e. refl) has
 simple_is w (Simple.PreDecrement line target) here s has = counted_simple line (λ e. Stmt-F.Decrement line e) (tokens 1 ⊗> place (expr w target)) here s (λ e. refl) has
-simple_is w (Simple.Call f args) here s has =
-    let v = changed_is (λ e. roll-Stmt (Stmt-F.Call f.line e)) ((call w f.line f (map (expr w) args)).judge here).value s has in
-    simple_made (Stmt-F.Call f.line v.value) s refl v.whole
+simple_is w (Simple.Call f args) here s has = call_simple w f (map (expr w) args) (meaning w here.before f.name) here s has
 
 pub step_is : (w : Whole) (o : Option Simple) (here : Place) (s : Stmt) → ((step w o).judge here).value ≡ Some s → IsSimple s
 step_is w None here s has = simple_made (Stmt-F.Block []) s refl (some_is has)
@@ -169,44 +185,18 @@ asked_call : (layer : Exprs.Layer) (es : List Expr) (v : Expr) → is_call layer
 asked_call layer [] v is e = subst IsCalled (some_is e) (made_call ExprType.Int layer is)
 asked_call layer (x ∷ es) v is e = absurd (none_some e)
 
-put_call : (e : Expr) (s : ExprType) (v : Expr) → put_by e s ≡ Some v → IsCalled v
-put_call e ExprType.Int v has = subst IsCalled (some_is has) (made_call ExprType.Void (Form-F.PutInt e) refl)
-put_call e (ExprType.Place t) v has = absurd (none_some has)
-put_call e ExprType.Null v has = absurd (none_some has)
-put_call e (ExprType.Pointer t) v has = absurd (none_some has)
-put_call e ExprType.Void v has = absurd (none_some has)
-put_call e ExprType.Unknown v has = subst IsCalled (some_is has) (made_call ExprType.Void (Form-F.PutInt e) refl)
-
-puts_call : (es : List Expr) (v : Expr) → put es ≡ Some v → IsCalled v
-puts_call [] v has = absurd (none_some has)
-puts_call (e ∷ []) v has = put_call e e.typing v has
-puts_call (e ∷ f ∷ es) v has = absurd (none_some has)
-
-free_call : (e : Expr) (s : ExprType) (v : Expr) → freed_by e s ≡ Some v → IsCalled v
-free_call e (ExprType.Pointer t) v has = subst IsCalled (some_is has) (made_call ExprType.Void (Form-F.Free e) refl)
-free_call e ExprType.Null v has = subst IsCalled (some_is has) (made_call ExprType.Void (Form-F.Free e) refl)
-free_call e (ExprType.Place t) v has = absurd (none_some has)
-free_call e ExprType.Int v has = absurd (none_some has)
-free_call e ExprType.Void v has = absurd (none_some has)
-free_call e ExprType.Unknown v has = subst IsCalled (some_is has) (made_call ExprType.Void (Form-F.Free e) refl)
-
-frees_call : (es : List Expr) (v : Expr) → freed es ≡ Some v → IsCalled v
-frees_call [] v has = absurd (none_some has)
-frees_call (e ∷ []) v has = free_call e e.typing v has
-frees_call (e ∷ f ∷ es) v has = absurd (none_some has)
-
 applied_call : (k : ℕ) (s : Signature) (es : List Expr) (v : Expr) (t : Bool)
     → elim t as (λ t. Option Expr) [ true ↦ Some (made (Exprs.called_type s.result) (Form-F.Call k es)) | false ↦ None ] ≡ Some v → IsCalled v
 applied_call k s es v true has = subst IsCalled (some_is has) (made_call (Exprs.called_type s.result) (Form-F.Call k es) refl)
 applied_call k s es v false has = absurd (none_some has)
 
-new_call : (s : Size) (v : Expr) → Some (made (ExprType.Pointer s.item) (Form-F.New s.item s.count)) ≡ Some v → IsCalled v
-new_call s v has = subst IsCalled (some_is has) (made_call (ExprType.Pointer s.item) (Form-F.New s.item s.count) refl)
+new_call : (s : Size) (v : Expr) → Some (made (ExprType.Pointer s.item) (Form-F.New 0 s.item s.count)) ≡ Some v → IsCalled v
+new_call s v has = subst IsCalled (some_is has) (made_call (ExprType.Pointer s.item) (Form-F.New 0 s.item s.count) refl)
 
 allocated_call : (item : ObjectType) (o : Option Expr) (v : Expr) → allocated (record { item = item; count = o }) ≡ Some v → IsCalled v
 allocated_call item None v has = new_call (record { item = item; count = None }) v has
 allocated_call item (Some n) v has = by n.typing has where
-  by : (s : ExprType) → elim s as (λ s. Option Expr) [ ExprType.Int ↦ Some (made (ExprType.Pointer item) (Form-F.New item (Some n))) | ExprType.Unknown ↦ Some (made (ExprType.Pointer item) (Form-F.New item (Some n))) | _ ↦ None ] ≡ Some v → IsCalled v
+  by : (s : ExprType) → elim s as (λ s. Option Expr) [ ExprType.Int ↦ Some (made (ExprType.Pointer item) (Form-F.New 0 item (Some n))) | ExprType.Unknown ↦ Some (made (ExprType.Pointer item) (Form-F.New 0 item (Some n))) | _ ↦ None ] ≡ Some v → IsCalled v
   by ExprType.Int has = new_call (record { item = item; count = Some n }) v has
   by (ExprType.Place t) has = absurd (none_some has)
   by ExprType.Null has = absurd (none_some has)
@@ -234,34 +224,23 @@ function_call line f rs k s false here v e =
     let is = ruled_is mismatch line (applied k s) here.at j.faults j.value v e in
     applied_call k s is.value v (all_fit is.value s.parameters) is.kept
 
-call_called : (w : Whole) (line : Line) (f : Ident) (rs : List Reading) (m : Meaning) (here : Place) (v : Expr) → ((call_as w line f rs m).judge here).value ≡ Some v → IsCalled v
-call_called w line f rs (Meaning.object u) here v e = absurd (none_some e)
-call_called w line f rs Meaning.nothing here v e = absurd (none_some e)
-call_called w line f rs (Meaning.function k s) here v e = function_call line f rs k s (is_main w f.name) here v e
-call_called w line f rs (Meaning.builtin Builtin.getint) here v e =
+asked_called : (line : Line) (layer : Exprs.Layer) (rs : List Reading) (here : Place) (v : Expr) → is_call layer ≡ true
+    → ((obeys mismatch line (λ h es. asked layer es) (called (arguments rs))).judge here).value ≡ Some v → IsCalled v
+asked_called line layer rs here v is e =
     let j = (called (arguments rs)).judge here in
-    let is = ruled_is mismatch line (asked Form-F.GetInt) here.at j.faults j.value v e in asked_call Form-F.GetInt is.value v refl is.kept
-call_called w line f rs (Meaning.builtin Builtin.left) here v e =
-    let j = (called (arguments rs)).judge here in
-    let is = ruled_is mismatch line (asked Form-F.Left) here.at j.faults j.value v e in asked_call Form-F.Left is.value v refl is.kept
-call_called w line f rs (Meaning.builtin Builtin.putint) here v e =
-    let j = (called (arguments rs)).judge here in
-    let is = ruled_is mismatch line put here.at j.faults j.value v e in puts_call is.value v is.kept
-call_called w line f rs (Meaning.builtin Builtin.free) here v e =
-    let j = (called (arguments rs)).judge here in
-    let is = ruled_is mismatch line freed here.at j.faults j.value v e in frees_call is.value v is.kept
-call_called w line f rs (Meaning.builtin Builtin.malloc) here v e = allocations_call line rs here v e
+    let r = ruled_is mismatch line (asked layer) here.at j.faults j.value v e in
+    asked_call layer r.value v is r.kept
 
 module _ (w : Whole) (c : Context) (linked : IsLinked w c) where
-  pub value_pure : (e : SourceExpr) → Pure w c (value (expr w e)) (IsExpr c)
+  pub value_pure : (e : SourceExpr) → Pure w c (value (expr w e)) (IsUsed c)
   value_pure e = sound_value w c linked (expr w e) (sound w c linked e)
 
   place_pure : (e : SourceExpr) → Pure w c (place (expr w e)) (IsExpr c)
   place_pure e = sound_place w c linked (expr w e) (sound w c linked e)
 
-  condition_when : (line : Line) (e : Expr) (d : Condition) (t : Bool) → IsExpr c e → is_truth e.typing ≡ t
+  condition_when : (line : Line) (e : Expr) (d : Condition) (t : Bool) → IsUsed c e → is_truth e.typing ≡ t
       → elim t as (λ t. Option Condition) [ true ↦ Some (record { line = line; value = e }) | false ↦ None ] ≡ Some d → IsCondition c d
-  condition_when line e d true is at has = subst (IsCondition c) (some_is has) (record { value = is; truth = at })
+  condition_when line e d true is at has = subst (IsCondition c) (some_is has) (record { value = truth_value w c linked e e.typing is at; truth = at })
   condition_when line e d false is at has = absurd (none_some has)
 
   pub condition_pure : (e : SourceExpr) → Pure w c (condition w e) (IsCondition c)
@@ -273,13 +252,38 @@ module _ (w : Whole) (c : Context) (linked : IsLinked w c) where
   abbrev pub Anywhere : Stmt → Type 0
   Anywhere s = (r : Round) → IsStmt c r s
 
-  assign_when : (line : Line) (op : AssignOp) (e v : Expr) (t : ExprType) (b : Bool) (s : Stmt) → IsExpr c e → IsExpr c v → scalar_at e.typing ≡ Some t → assigns_scalar op t v.typing ≡ b
+  -- what is assigned or returned has a value
+  void_compound : (op : AssignOp) (t : ExprType) → assigns_scalar op t ExprType.Void ≡ true → ⊥
+  void_compound AssignOp.Plain t e = false_is w c linked e
+  void_compound _ t e = false_is w c linked e
+
+  assigned_value : (op : AssignOp) (e : Expr) (t v : ExprType) → IsUsedAs c v e → assigns_scalar op t v ≡ true → IsExpr c e
+  assigned_value op e t ExprType.Void is fit = absurd (void_compound op t fit)
+  assigned_value op e t (ExprType.Place o) is fit = is
+  assigned_value op e t ExprType.Int is fit = is
+  assigned_value op e t ExprType.Null is fit = is
+  assigned_value op e t (ExprType.Pointer o) is fit = is
+  assigned_value op e t ExprType.Unknown is fit = is
+
+  void_suits : (o : Option ExprType) → suits_some ExprType.Void o ≡ true → ⊥
+  void_suits None e = false_is w c linked e
+  void_suits (Some s) e = false_is w c linked e
+
+  pub fitting_value : (e : Expr) (v : ExprType) (t : ObjectType) → IsUsedAs c v e → fits v t ≡ true → IsExpr c e
+  fitting_value e ExprType.Void t is fit = absurd (void_suits (scalar_type t) fit)
+  fitting_value e (ExprType.Place o) t is fit = is
+  fitting_value e ExprType.Int t is fit = is
+  fitting_value e ExprType.Null t is fit = is
+  fitting_value e (ExprType.Pointer o) t is fit = is
+  fitting_value e ExprType.Unknown t is fit = is
+
+  assign_when : (line : Line) (op : AssignOp) (e v : Expr) (t : ExprType) (b : Bool) (s : Stmt) → IsExpr c e → IsUsed c v → scalar_at e.typing ≡ Some t → assigns_scalar op t v.typing ≡ b
       → elim b as (λ b. Option Stmt) [ true ↦ Some (roll-Stmt (Stmt-F.Assign line e op v)) | false ↦ None ] ≡ Some s → Anywhere s
   assign_when line op e v t true s is that at fit has =
-      subst Anywhere (some_is has) (λ r. stmt_made w c r (Stmt-F.Assign line e op v) (record { known = is; scalar = t; place = at }, that, fit) AreStmts.none)
+      subst Anywhere (some_is has) (λ r. stmt_made w c r (Stmt-F.Assign line e op v) (record { known = is; scalar = t; place = at }, assigned_value op v t v.typing that fit, fit) AreStmts.none)
   assign_when line op e v t false s is that at fit has = absurd (none_some has)
 
-  assigned_known : (line : Line) (op : AssignOp) (e v : Expr) (o : Option ExprType) (s : Stmt) → IsExpr c e → IsExpr c v → scalar_at e.typing ≡ o
+  assigned_known : (line : Line) (op : AssignOp) (e v : Expr) (o : Option ExprType) (s : Stmt) → IsExpr c e → IsUsed c v → scalar_at e.typing ≡ o
       → elim o as (λ o. Option Stmt) [
         | None ↦ None
         | Some t ↦ elim (assigns_scalar op t v.typing) as (λ b. Option Stmt) [ true ↦ Some (roll-Stmt (Stmt-F.Assign line e op v)) | false ↦ None ]
@@ -305,22 +309,46 @@ module _ (w : Whole) (c : Context) (linked : IsLinked w c) where
   then_place : (e : SourceExpr) → Pure w c (tokens 1 ⊗> place (expr w e)) (IsExpr c)
   then_place e = pure_joined w c (λ a b. b) (tokens 1) (place (expr w e)) {R = IsExpr c} (pure_tokens w c 1) (place_pure e) (λ a b x y. y)
 
-  call_pure : (f : Ident) (args : List SourceExpr) → Pure w c (call w f.line f (map (expr w) args)) (λ e. IsExpr c e × IsCalled e)
-  call_pure f args =
-      let is = sound_call_of w c linked f.line f args in
-      record { quiet = refl; sound = λ here st e has. (is.sound here st e has, call_called w f.line f (map (expr w) args) (meaning w here.before f.name) here e has) }
+  -- a call, `putint` and `free`
+  called_pure : (line : Line) (p : Part Expr) → Pure w c p (IsExpr c) → ((here : Place) (v : Expr) → (p.judge here).value ≡ Some v → IsCalled v)
+      → Pure w c ((λ e. roll-Stmt (Stmt-F.Call line e)) <$> p) Anywhere
+  called_pure line p is called =
+      pure_map w c (λ e. roll-Stmt (Stmt-F.Call line e)) p {P = λ e. IsExpr c e × IsCalled e} {Q = Anywhere}
+      (record { quiet = is.quiet; sound = λ here st e has. (is.sound here st e has, called here e has) })
+      (λ e all r. stmt_made w c r (Stmt-F.Call line e) all AreStmts.none)
+
+  call_by_pure : (f : Ident) (rs : List Reading) (m : Meaning) → AllSound w c linked rs → IsFound w c linked f m → Pure w c (call_by w f rs m) Anywhere
+  call_by_pure f rs (Meaning.object v) all is = called_pure f.line _ (sound_object_call w c linked f.line f rs v all) (λ here e has. absurd (none_some has))
+  call_by_pure f rs Meaning.nothing all is = called_pure f.line _ (sound_nothing_call w c linked f.line f rs all) (λ here e has. absurd (none_some has))
+  call_by_pure f rs (Meaning.function k s) all is =
+      called_pure f.line _ (sound_function_call w c linked f.line f rs k s all is) (λ here e has. function_call f.line f rs k s (is_main w f.name) here e has)
+  call_by_pure f rs (Meaning.builtin Builtin.getint) all is =
+      called_pure f.line _ (sound_getint w c linked f.line f rs all) (λ here e has. asked_called f.line Form-F.GetInt rs here e refl has)
+  call_by_pure f rs (Meaning.builtin Builtin.left) all is =
+      called_pure f.line _ (sound_left w c linked f.line f rs all) (λ here e has. asked_called f.line Form-F.Left rs here e refl has)
+  call_by_pure f rs (Meaning.builtin Builtin.putint) all is =
+      pure_map w c (λ e. roll-Stmt (Stmt-F.PutInt f.line e)) _ {Q = Anywhere} (sound_put w c linked f.line rs all) (λ e known r. stmt_made w c r (Stmt-F.PutInt f.line e) known AreStmts.none)
+  call_by_pure f rs (Meaning.builtin Builtin.free) all is =
+      pure_map w c (λ e. roll-Stmt (Stmt-F.Free f.line e)) _ {Q = Anywhere} (sound_free w c linked f.line rs all) (λ e known r. stmt_made w c r (Stmt-F.Free f.line e) known AreStmts.none)
+  call_by_pure f rs (Meaning.builtin Builtin.malloc) all is =
+      called_pure f.line _ (sound_allocation w c linked f.line rs all) (λ here e has. allocations_call f.line rs here e has)
+
+  call_pure : (f : Ident) (rs : List Reading) → AllSound w c linked rs → Pure w c (call_stmt w f rs) Anywhere
+  call_pure f rs all = record {
+    quiet = refl;
+    sound = λ here st s has. (call_by_pure f rs (meaning w here.before f.name) all (λ k g e. function_meant w here.before f.name k g e)).sound here st s has;
+  }
 
   pub simple_pure : (s : Simple) → Pure w c (simple w s) Anywhere
   simple_pure (Simple.Assign line target op v) =
       pure_obeys w c mismatch line (λ h e. assigned line op e.0 e.1) (place (expr w target) <⊗ tokens 1 ⊗ value (expr w v))
-      (pure_joined w c (λ a b. (a, b)) (place (expr w target) <⊗ tokens 1) (value (expr w v)) {R = λ p. IsExpr c p.0 × IsExpr c p.1} (place_then target) (value_pure v) (λ a b x y. (x, y)))
+      (pure_joined w c (λ a b. (a, b)) (place (expr w target) <⊗ tokens 1) (value (expr w v)) {R = λ p. IsExpr c p.0 × IsUsed c p.1} (place_then target) (value_pure v) (λ a b x y. (x, y)))
       (λ h e s st is has. assigned_known line op e.0 e.1 (scalar_at e.0.typing) s is.0 is.1 refl has)
   simple_pure (Simple.Increment line target) = pure_obeys w c mismatch line (λ h e. counted e (Stmt-F.Increment line e)) _ (place_then target) (λ h e s st is has. increment_known line e s is has)
   simple_pure (Simple.Decrement line target) = pure_obeys w c mismatch line (λ h e. counted e (Stmt-F.Decrement line e)) _ (place_then target) (λ h e s st is has. decrement_known line e s is has)
   simple_pure (Simple.PreIncrement line target) = pure_obeys w c mismatch line (λ h e. counted e (Stmt-F.Increment line e)) _ (then_place target) (λ h e s st is has. increment_known line e s is has)
   simple_pure (Simple.PreDecrement line target) = pure_obeys w c mismatch line (λ h e. counted e (Stmt-F.Decrement line e)) _ (then_place target) (λ h e s st is has. decrement_known line e s is has)
-  simple_pure (Simple.Call f args) =
-      pure_map w c (λ e. roll-Stmt (Stmt-F.Call f.line e)) (call w f.line f (map (expr w) args)) {Q = Anywhere} (call_pure f args) (λ e is r. stmt_made w c r (Stmt-F.Call f.line e) is AreStmts.none)
+  simple_pure (Simple.Call f args) = call_pure f (map (expr w) args) (all_are_sound w c linked args)
 
   abbrev pub AreHere : History → List Stmt → Type 0
   AreHere h ss = AreStmts c (placed (round h) ss)
@@ -341,14 +369,14 @@ module _ (w : Whole) (c : Context) (linked : IsLinked w c) where
     WellFalse e = subst (λ b. elim b as (λ b. Type 0) [ true ↦ ⊥ | false ↦ Unit {0} ]) e tt
   scalar_fits v (Some s) e = (s, refl, e)
 
-  starts_when : (d : Declarator) (t : ObjectType) (k : ℕ) (e : Expr) (b : Bool) (ss : List Stmt) → slice_get c.variables k ≡ Some t → IsExpr c e → fits e.typing t ≡ b
+  starts_when : (d : Declarator) (t : ObjectType) (k : ℕ) (e : Expr) (b : Bool) (ss : List Stmt) → slice_get c.variables k ≡ Some t → IsUsed c e → fits e.typing t ≡ b
       → elim b as (λ b. Option (List Stmt)) [ true ↦ Some (roll-Stmt (Stmt-F.Assign d.line (made (ExprType.Place t) (Form-F.Local k)) AssignOp.Plain e) ∷ []) | false ↦ None ] ≡ Some ss → AreAnywhere ss
   starts_when d t k e true ss there is fit has =
       let s = scalar_fits e.typing (scalar_type t) fit in
       let variable = made (ExprType.Place t) (Form-F.Local k) in
       let target = made_known w c linked (ExprType.Place t) (Form-F.Local k) (linked.variables k t there) (t, there, refl) AreExprs.none in
       let first : Anywhere (roll-Stmt (Stmt-F.Assign d.line variable AssignOp.Plain e)) =
-      λ r. stmt_made w c r (Stmt-F.Assign d.line variable AssignOp.Plain e) (record { known = target; scalar = s.0; place = s.1 }, is, s.2) AreStmts.none in
+      λ r. stmt_made w c r (Stmt-F.Assign d.line variable AssignOp.Plain e) (record { known = target; scalar = s.0; place = s.1 }, fitting_value e e.typing t is fit, s.2) AreStmts.none in
       subst AreAnywhere (some_is has) (λ r. each (r, roll-Stmt (Stmt-F.Assign d.line variable AssignOp.Plain e)) [] (first r) AreStmts.none)
   starts_when d t k e false ss there is fit has = absurd (none_some has)
 
@@ -356,7 +384,7 @@ module _ (w : Whole) (c : Context) (linked : IsLinked w c) where
   sound_valued d t None = sound_map w c (λ _. []) (declared w d t) (sound_declared d t) (λ h u is r. AreStmts.none)
   sound_valued d t (Some e) =
       sound_obeys w c mismatch d.line (λ h v. starts_with d t (locals_in h) v) (declared w d t ⊗> tokens 1 ⊗> value (expr w e))
-      (sound_joined w c (λ a b. b) (declared w d t ⊗> tokens 1) (value (expr w e)) {R = λ h v. IsVariable t h tt × IsExpr c v}
+      (sound_joined w c (λ a b. b) (declared w d t ⊗> tokens 1) (value (expr w e)) {R = λ h v. IsVariable t h tt × IsUsed c v}
       (sound_joined w c (λ a b. b) (declared w d t) (tokens 1) {R = IsVariable t} (sound_declared d t) (sound_tokens w c 1) (λ h a b x y. x))
-      (sound_of w c (value (expr w e)) {Q = λ h v. IsExpr c v} (value_pure e) (λ h v x. x)) (λ h a b x y. (x, y)))
+      (sound_of w c (value (expr w e)) {Q = λ h v. IsUsed c v} (value_pure e) (λ h v x. x)) (λ h a b x y. (x, y)))
       (λ h v ss st is has. starts_when d t (locals_in h) v (fits v.typing t) ss is.0 is.1 refl has)

@@ -11,7 +11,7 @@ use Rattle.c_typed.specs.Whole.{Whole, Member, members, whole_of, struct_defs}
 use Rattle.c_typed.specs.Faults.{unless, no_main}
 use Rattle.c_typed.specs.Parts.{Place}
 use Rattle.c_typed.specs.Decls.{type_limit, joined_lists}
-use Rattle.c_typed.specs.Programs.{global_limit, function_limit, struct_by, text, judged, main_number, functions_by, faults_of, typed_of}
+use Rattle.c_typed.specs.Programs.{global_limit, function_limit, struct_by, text, judged, globals_by, main_number, functions_by, faults_of}
 use Rattle.c_typed.specs.Typed.{Typed}
 use Rattle.c_typed.specs.IsWell.{IsObject, IsGlobal, IsFunction, sizes_in, words_in}
 use Rattle.c_typed.proofs.Small.{one}
@@ -74,12 +74,24 @@ objects_at structs [] all k o e = absurd (none_some e)
 objects_at structs (g ∷ gs) all zero o e = subst (IsObject structs) (some_is e) all.0.object
 objects_at structs (g ∷ gs) all (suc k) o e = objects_at structs gs all.1 k o e
 
+-- the typed program before its sites are numbered
+abbrev pub plain_by : Whole → List Item → Typed
+plain_by w items = record {
+  structs = struct_by w.sizes w.structs;
+  globals = globals_by w.tags items;
+  functions = functions_by (judged w items).value;
+  main = main_number w;
+}
+
+abbrev pub plain_of : Ast → Typed
+plain_of a = plain_by (whole_of a.names a.items) a.items
+
 module _ (a : Ast) (keeps : faults_of a ≡ []) where
   abbrev pub w : Whole
   w = whole_of a.names a.items
 
   abbrev pub t : Typed
-  t = typed_of a
+  t = plain_of a
 
   pub no_fault : (judged w a.items).faults ≡ []
   no_fault = none_first (judged w a.items).faults (unless (nat_lt (main_number w) (length w.functions)) (text w a.items).tokens no_main a.last) keeps

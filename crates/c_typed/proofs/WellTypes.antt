@@ -18,6 +18,28 @@ use Rattle.c_typed.specs.Programs.{main_number}
 use Rattle.c_typed.specs.IsWell.{IsBase, IsObject, IsTyping, sizes_in, Context, IsLayer, operands_of, IsExpr, AreExprs, none, each, known}
 use Rattle.c_typed.proofs.WellParts.{none_some, some_is}
 
+-- An expression, or what stands for a call without a value.
+abbrev pub IsUsedAs : Context → ExprType → Expr → Type 0
+IsUsedAs c ExprType.Void e = Unit {0}
+IsUsedAs c _ e = IsExpr c e
+
+abbrev pub IsUsed : Context → Expr → Type 0
+IsUsed c e = IsUsedAs c e.typing e
+
+used_by : (c : Context) (s : ExprType) (e : Expr) → IsExpr c e → IsUsedAs c s e
+used_by c ExprType.Void e is = tt
+used_by c (ExprType.Place t) e is = is
+used_by c ExprType.Int e is = is
+used_by c ExprType.Null e is = is
+used_by c (ExprType.Pointer t) e is = is
+used_by c ExprType.Unknown e is = is
+
+pub used : (c : Context) (e : Expr) → IsExpr c e → IsUsed c e
+used c e is = used_by c e.typing e is
+
+pub used_at : (c : Context) (e : Expr) (s : ExprType) → IsUsed c e → e.typing ≡ s → IsUsedAs c s e
+used_at c e s is at = subst (λ s. IsUsedAs c s e) at is
+
 -- What a program's whole text is to a context.
 pub record IsLinked (w : Whole) (c : Context) : Type 0 where
   pub tags : length w.tags ≡ length c.structs
@@ -106,6 +128,20 @@ module _ (w : Whole) (c : Context) (linked : IsLinked w c) where
   pub no_unknown : (e : Expr) → IsExpr c e → e.typing ≡ ExprType.Unknown → ⊥
   no_unknown e is at = subst (IsTyping c.structs) at (typing_of e is)
 
+  typed_as : (e : Expr) (s : ExprType) → IsUsedAs c s e → e.typing ≡ s → is_unknown s ≡ false
+  typed_as e ExprType.Void is at = refl
+  typed_as e (ExprType.Place t) is at = refl
+  typed_as e ExprType.Int is at = refl
+  typed_as e ExprType.Null is at = refl
+  typed_as e (ExprType.Pointer t) is at = refl
+  typed_as e ExprType.Unknown is at = absurd (no_unknown e is at)
+
+  pub is_known : (e : Expr) → IsUsed c e → is_unknown e.typing ≡ false
+  is_known e is = typed_as e e.typing is refl
+
+  pub never_unknown : (e : Expr) → IsUsed c e → e.typing ≡ ExprType.Unknown → ⊥
+  never_unknown e is at = no_unknown e (used_at c e ExprType.Unknown is at) at
+
   pub made_known : (s : ExprType) (layer : Form-F Form Expr) → IsTyping c.structs s → IsLayer c s layer → AreExprs c (operands_of layer) → IsExpr c (made s layer)
   made_known s layer t l es =
       known (made s layer) t (subst (IsLayer c s) (sym (out-roll-Form layer)) l) (subst (λ x. AreExprs c (operands_of x)) (sym (out-roll-Form layer)) es)
@@ -138,13 +174,13 @@ module _ (w : Whole) (c : Context) (linked : IsLinked w c) where
   value_taken e t (Some s) v is at has e_is = subst (IsExpr c) (some_is e_is) (taken_known e t.base t.stars t.lengths s is at has)
 
   -- the value of an expression
-  pub value_known : (e : Expr) (s : ExprType) (v : Expr) → IsExpr c e → e.typing ≡ s → value_by_type e s ≡ Some v → IsExpr c v
-  value_known e (ExprType.Place t) v is at has = value_taken e t (value_type t) v is at refl has
-  value_known e ExprType.Int v is at has = subst (IsExpr c) (some_is has) is
-  value_known e ExprType.Null v is at has = subst (IsExpr c) (some_is has) is
-  value_known e (ExprType.Pointer t) v is at has = subst (IsExpr c) (some_is has) is
-  value_known e ExprType.Void v is at has = subst (IsExpr c) (some_is has) is
-  value_known e ExprType.Unknown v is at has = subst (IsExpr c) (some_is has) is
+  pub value_known : (e : Expr) (s : ExprType) (v : Expr) → IsUsed c e → e.typing ≡ s → value_by_type e s ≡ Some v → IsUsed c v
+  value_known e (ExprType.Place t) v is at has = used c v (value_taken e t (value_type t) v (used_at c e (ExprType.Place t) is at) at refl has)
+  value_known e ExprType.Int v is at has = subst (IsUsed c) (some_is has) is
+  value_known e ExprType.Null v is at has = subst (IsUsed c) (some_is has) is
+  value_known e (ExprType.Pointer t) v is at has = subst (IsUsed c) (some_is has) is
+  value_known e ExprType.Void v is at has = subst (IsUsed c) (some_is has) is
+  value_known e ExprType.Unknown v is at has = subst (IsUsed c) (some_is has) is
 
 -- the number of a field, and its type
 field_else : (x n : ℕ) (m : Member) (ms : List Member) (f : ℕ × ObjectType) (t : Bool)

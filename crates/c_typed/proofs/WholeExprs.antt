@@ -19,6 +19,9 @@ use Rattle.c_typed.specs.Faults.{Rule, Fault, unknown, mismatch, not_lvalue}
 use Rattle.c_typed.specs.Parts.{Place, Part, tokens, given, mark, joined, behind, both_values, kept_by, ruled_by, obeys, refused, with_faults, separated, in_turn, ◌⊗◌, ◌<⊗◌, ◌⊗>◌, ◌<$>◌}
 use Rattle.c_typed.specs.Tags.{base, type_name, known_tag}
 use Rattle.c_typed.specs.Exprs
+use Rattle.c_typed.specs.declared.stmt.Stmt.{roll-Stmt}
+use Rattle.c_typed.specs.declared.stmt.Stmt.TheOpen.{Stmt-F}
+use Rattle.c_typed.specs.Stmts.{call_by, call_stmt}
 use Rattle.c_typed.specs.Exprs.{Layer, Size, Reading, value, place, unary, operands, product, counted_by, many_of, one_of, field_of, fielded, in_struct, found_by, field_by, name, name_as, arguments, called, call, call_as, allocation, allocation_by, form_step, expr}
 use Rattle.c_typed.proofs.Levels.{mapped_form, read_form, form_roll, expr_reads}
 use Rattle.c_typed.proofs.WellParts.{none_each, none_first, none_second, ruled_faults}
@@ -212,8 +215,8 @@ whole_call_as w line f rs (Meaning.function k s) all =
     ]
 whole_call_as w line f rs (Meaning.builtin Builtin.getint) all = whole_obeys mismatch line _ _ (with_arguments rs all)
 whole_call_as w line f rs (Meaning.builtin Builtin.left) all = whole_obeys mismatch line _ _ (with_arguments rs all)
-whole_call_as w line f rs (Meaning.builtin Builtin.putint) all = whole_obeys mismatch line _ _ (with_arguments rs all)
-whole_call_as w line f rs (Meaning.builtin Builtin.free) all = whole_obeys mismatch line _ _ (with_arguments rs all)
+whole_call_as w line f rs (Meaning.builtin Builtin.putint) all = whole_map _ _ (whole_obeys mismatch line _ _ (with_arguments rs all))
+whole_call_as w line f rs (Meaning.builtin Builtin.free) all = whole_map _ _ (whole_obeys mismatch line _ _ (with_arguments rs all))
 whole_call_as w line f rs (Meaning.builtin Builtin.malloc) all = whole_allocation line rs all
 
 whole_call : (w : Whole) (line : Line) (f : Ident) (rs : List Reading) → AllRead rs → IsWhole (call w line f rs)
@@ -266,5 +269,16 @@ all_exprs : (w : Whole) (es : List SourceExpr) → AllRead (map (expr w) es)
 all_exprs w [] = tt
 all_exprs w (e ∷ es) = (whole_expr w e, all_exprs w es)
 
-pub whole_call_of : (w : Whole) (line : Line) (f : Ident) (es : List SourceExpr) → IsWhole (call w line f (map (expr w) es))
-whole_call_of w line f es = whole_call w line f (map (expr w) es) (all_exprs w es)
+-- a call as a statement
+whole_call_by : (w : Whole) (f : Ident) (rs : List Reading) (m : Meaning) → AllRead rs → IsWhole (call_by w f rs m)
+whole_call_by w f rs (Meaning.object v) all = whole_map (λ e. roll-Stmt (Stmt-F.Call f.line e)) (call_as w f.line f rs (Meaning.object v)) (whole_call_as w f.line f rs (Meaning.object v) all)
+whole_call_by w f rs Meaning.nothing all = whole_map (λ e. roll-Stmt (Stmt-F.Call f.line e)) (call_as w f.line f rs Meaning.nothing) (whole_call_as w f.line f rs Meaning.nothing all)
+whole_call_by w f rs (Meaning.function k s) all = whole_map (λ e. roll-Stmt (Stmt-F.Call f.line e)) (call_as w f.line f rs (Meaning.function k s)) (whole_call_as w f.line f rs (Meaning.function k s) all)
+whole_call_by w f rs (Meaning.builtin Builtin.getint) all = whole_map (λ e. roll-Stmt (Stmt-F.Call f.line e)) (call_as w f.line f rs (Meaning.builtin Builtin.getint)) (whole_call_as w f.line f rs (Meaning.builtin Builtin.getint) all)
+whole_call_by w f rs (Meaning.builtin Builtin.left) all = whole_map (λ e. roll-Stmt (Stmt-F.Call f.line e)) (call_as w f.line f rs (Meaning.builtin Builtin.left)) (whole_call_as w f.line f rs (Meaning.builtin Builtin.left) all)
+whole_call_by w f rs (Meaning.builtin Builtin.putint) all = whole_map (λ e. roll-Stmt (Stmt-F.PutInt f.line e)) _ (whole_obeys mismatch f.line _ _ (with_arguments rs all))
+whole_call_by w f rs (Meaning.builtin Builtin.free) all = whole_map (λ e. roll-Stmt (Stmt-F.Free f.line e)) _ (whole_obeys mismatch f.line _ _ (with_arguments rs all))
+whole_call_by w f rs (Meaning.builtin Builtin.malloc) all = whole_map (λ e. roll-Stmt (Stmt-F.Call f.line e)) (call_as w f.line f rs (Meaning.builtin Builtin.malloc)) (whole_call_as w f.line f rs (Meaning.builtin Builtin.malloc) all)
+
+pub whole_call_stmt : (w : Whole) (f : Ident) (es : List SourceExpr) → IsWhole (call_stmt w f (map (expr w) es))
+whole_call_stmt w f es = record { whole = λ here e. (whole_call_by w f (map (expr w) es) (meaning w here.before f.name) (all_exprs w es)).whole here e }

@@ -36,7 +36,7 @@ use Rattle.c_typed.specs.Stmts.{Layer, empty, simple, condition, value_there, co
 use Rattle.c_typed.specs.Programs as programs
 use Rattle.c_typed.specs.Programs.{struct, global_item, global_decl, result_base, parameters, with_part, function_body, function_text, function_item, proto_parameters, proto, item, text}
 use Rattle.c_typed.proofs.Levels.{items_of, blocks_of, first_items, mapped, stmt_roll}
-use Rattle.c_typed.proofs.WholeExprs.{IsWhole, whole_tokens, whole_mark, whole_given, whole_map, whole_obeys, whole_with, beside, before, after, AllWhole, none, each, all_whole, whole_in_turn, whole_separated, whole_base, whole_value, whole_place, whole_expr, whole_call_of}
+use Rattle.c_typed.proofs.WholeExprs.{IsWhole, whole_tokens, whole_mark, whole_given, whole_map, whole_obeys, whole_with, beside, before, after, AllWhole, none, each, all_whole, whole_in_turn, whole_separated, whole_base, whole_value, whole_place, whole_expr, whole_call_stmt}
 
 value_of : (w : Whole) (e : SourceExpr) → IsWhole (value (expr w e))
 value_of w e = whole_value (expr w e) (whole_expr w e)
@@ -69,7 +69,7 @@ whole_simple w (Simple.Increment line target) = whole_obeys _ _ _ _ (before (pla
 whole_simple w (Simple.Decrement line target) = whole_obeys _ _ _ _ (before (place_of w target) (whole_tokens 1))
 whole_simple w (Simple.PreIncrement line target) = whole_obeys _ _ _ _ (after (whole_tokens 1) (place_of w target))
 whole_simple w (Simple.PreDecrement line target) = whole_obeys _ _ _ _ (after (whole_tokens 1) (place_of w target))
-whole_simple w (Simple.Call f args) = whole_map _ _ (whole_call_of w f.line f args)
+whole_simple w (Simple.Call f args) = whole_call_stmt w f args
 
 whole_value_there : (w : Whole) (v : Option SourceExpr) → IsWhole (value_there w v)
 whole_value_there w None = whole_given None

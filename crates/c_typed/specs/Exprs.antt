@@ -250,9 +250,10 @@ abbrev pub asked : Layer → List Expr → Option Expr
 asked layer [] = Some (made ExprType.Int layer)
 asked layer _ = None
 
+-- what `putint` and `free` are asked for
 abbrev pub put_by : Expr → ExprType → Option Expr
-put_by e ExprType.Int = Some (made ExprType.Void (Form-F.PutInt e))
-put_by e ExprType.Unknown = Some (made ExprType.Void (Form-F.PutInt e))
+put_by e ExprType.Int = Some e
+put_by e ExprType.Unknown = Some e
 put_by e _ = None
 
 abbrev pub put : List Expr → Option Expr
@@ -260,18 +261,23 @@ put (e ∷ []) = put_by e e.typing
 put _ = None
 
 abbrev pub freed_by : Expr → ExprType → Option Expr
-freed_by e (ExprType.Pointer t) = Some (made ExprType.Void (Form-F.Free e))
-freed_by e ExprType.Null = Some (made ExprType.Void (Form-F.Free e))
-freed_by e ExprType.Unknown = Some (made ExprType.Void (Form-F.Free e))
+freed_by e (ExprType.Pointer t) = Some e
+freed_by e ExprType.Null = Some e
+freed_by e ExprType.Unknown = Some e
 freed_by e _ = None
 
 abbrev pub freed : List Expr → Option Expr
 freed (e ∷ []) = freed_by e e.typing
 freed _ = None
 
+-- They have no value, and are statements: what stands for them in an expression fits nothing.
+abbrev pub no_value : Expr
+no_value = made ExprType.Void Form-F.Null
+
+-- (its site is numbered when all are known)
 abbrev pub allocated : Size → Option Expr
 allocated s =
-    let e = made (ExprType.Pointer s.item) (Form-F.New s.item s.count) in
+    let e = made (ExprType.Pointer s.item) (Form-F.New 0 s.item s.count) in
     elim s.count [ None ↦ Some e | Some n ↦ elim n.typing [ ExprType.Int ↦ Some e | ExprType.Unknown ↦ Some e | _ ↦ None ] ]
 
 abbrev pub arguments : List Reading → Part (List Expr)
@@ -300,8 +306,8 @@ call_as w line f rs (Meaning.function k s) =
     ]
 call_as w line f rs (Meaning.builtin Builtin.getint) = obeys mismatch line (λ h es. asked Form-F.GetInt es) (called (arguments rs))
 call_as w line f rs (Meaning.builtin Builtin.left) = obeys mismatch line (λ h es. asked Form-F.Left es) (called (arguments rs))
-call_as w line f rs (Meaning.builtin Builtin.putint) = obeys mismatch line (λ h es. put es) (called (arguments rs))
-call_as w line f rs (Meaning.builtin Builtin.free) = obeys mismatch line (λ h es. freed es) (called (arguments rs))
+call_as w line f rs (Meaning.builtin Builtin.putint) = (λ _. no_value) <$> obeys mismatch line (λ h es. put es) (called (arguments rs))
+call_as w line f rs (Meaning.builtin Builtin.free) = (λ _. no_value) <$> obeys mismatch line (λ h es. freed es) (called (arguments rs))
 call_as w line f rs (Meaning.builtin Builtin.malloc) = allocation line rs
 
 abbrev pub call : Whole → Line → Ident → List Reading → Part Expr

@@ -1,5 +1,6 @@
 -- What a typed program is, whatever its source: every number in it exists, places, values and types fit, and sizes are within limits.
 use Rattle.std.specs.Prelude.{◌≡◌, ◌≢◌, ℕ, zero, suc, ◌+◌, ◌<◌, ◌≤◌, pos, Bool, true, false, List, [], ◌∷◌, ◌++◌, map, take, length, Option, Some, None, All, slice_get}
+use Rattle.std.specs.List.{range_with_len}
 use Rattle.c_typed.specs.declared.types.BaseType.{BaseType}
 use Rattle.c_typed.specs.declared.types.ObjectType.{ObjectType}
 use Rattle.c_typed.specs.declared.types.ExprType.{ExprType}
@@ -20,6 +21,7 @@ use Rattle.c_typed.specs.Exprs.{binary_type, struct_of, all_fit, called_type}
 use Rattle.c_typed.specs.Decls.{is_scalar, type_limit, frame_limit}
 use Rattle.c_typed.specs.Stmts.{scalar_at, assigns_scalar}
 use Rattle.c_typed.specs.Programs.{global_limit, function_limit, declaration_limit}
+use Rattle.c_typed.specs.Sites.{sites}
 use Rattle.c_typed.specs.Typed.{Typed}
 
 -- Types.
@@ -107,9 +109,7 @@ IsLayer c s (Form-F.Binary e op f) = binary_type op e.typing f.typing ≡ Some s
 IsLayer c s (Form-F.Call k es) = IsCallOf c k es s
 IsLayer c s Form-F.GetInt = s ≡ ExprType.Int
 IsLayer c s Form-F.Left = s ≡ ExprType.Int
-IsLayer c s (Form-F.PutInt e) = (e.typing ≡ ExprType.Int) × (s ≡ ExprType.Void)
-IsLayer c s (Form-F.Free e) = IsFreed e.typing × (s ≡ ExprType.Void)
-IsLayer c s (Form-F.New item count) = IsCount count × (s ≡ ExprType.Pointer item)
+IsLayer c s (Form-F.New site item count) = IsCount count × (s ≡ ExprType.Pointer item)
 
 abbrev pub operand_there : Option Expr → List Expr
 operand_there None = []
@@ -126,9 +126,7 @@ operands_of (Form-F.Address e) = e ∷ []
 operands_of (Form-F.Prefix op e) = e ∷ []
 operands_of (Form-F.Binary e op f) = e ∷ f ∷ []
 operands_of (Form-F.Call k es) = es
-operands_of (Form-F.PutInt e) = e ∷ []
-operands_of (Form-F.Free e) = e ∷ []
-operands_of (Form-F.New item count) = operand_there count
+operands_of (Form-F.New site item count) = operand_there count
 operands_of _ = []
 
 -- an expression, and all of these
@@ -172,9 +170,7 @@ abbrev pub is_call : Form-F Form Expr → Bool
 is_call (Form-F.Call k es) = true
 is_call Form-F.GetInt = true
 is_call Form-F.Left = true
-is_call (Form-F.PutInt e) = true
-is_call (Form-F.Free e) = true
-is_call (Form-F.New item count) = true
+is_call (Form-F.New site item count) = true
 is_call _ = false
 
 -- a value exactly where there is a result
@@ -189,6 +185,8 @@ is_simple (Stmt-F.Assign line e op v) = true
 is_simple (Stmt-F.Increment line e) = true
 is_simple (Stmt-F.Decrement line e) = true
 is_simple (Stmt-F.Call line e) = true
+is_simple (Stmt-F.PutInt line e) = true
+is_simple (Stmt-F.Free line e) = true
 is_simple (Stmt-F.Block []) = true
 is_simple _ = false
 
@@ -198,6 +196,8 @@ IsStmtLayer c r (Stmt-F.Assign line e op v) = (is : IsTarget c e) × IsExpr c v 
 IsStmtLayer c r (Stmt-F.Increment line e) = IsTarget c e
 IsStmtLayer c r (Stmt-F.Decrement line e) = IsTarget c e
 IsStmtLayer c r (Stmt-F.Call line e) = IsExpr c e × (is_call (out-Form e.form) ≡ true)
+IsStmtLayer c r (Stmt-F.PutInt line e) = IsExpr c e × (e.typing ≡ ExprType.Int)
+IsStmtLayer c r (Stmt-F.Free line e) = IsExpr c e × IsFreed e.typing
 IsStmtLayer c r (Stmt-F.Return line v) = (r.branched ≡ false) × IsReturned c c.result v
 IsStmtLayer c r (Stmt-F.Break line) = r.looped ≡ true
 IsStmtLayer c r (Stmt-F.Continue line) = r.looped ≡ true
@@ -323,4 +323,6 @@ pub record IsWell (t : Typed) : Type 0 where
   pub functions : All (IsFunction t) t.functions
   pub few_functions : length t.functions ≤ function_limit
   pub few_declarations : declarations t ≤ declaration_limit
+  -- numbered in the order of the code
+  pub sites : sites t ≡ range_with_len 0 (length (sites t))
   pub main : (f : Function) × (slice_get t.functions t.main ≡ Some f) × (f.parameters ≡ 0) × IsIntResult f.result

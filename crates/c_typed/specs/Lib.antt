@@ -8,6 +8,7 @@ pub mod Exprs
 pub mod Decls
 pub mod Stmts
 pub mod Typed
+pub mod Sites
 pub mod Programs
 pub mod Checks
 pub mod IsWell

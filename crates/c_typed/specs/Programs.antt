@@ -41,6 +41,7 @@ use Rattle.c_typed.specs.Decls.{declarator_tokens, name_at, by_value, has_items,
 pub use Rattle.dfi_base.specs.Limits.{global_limit, function_limit}
 use Rattle.c_typed.specs.Stmts.{body, stmt}
 use Rattle.c_typed.specs.Typed.{Typed}
+use Rattle.c_typed.specs.Sites.{numbered}
 
 -- what a program declares, as few as the tokens of a text
 abbrev pub declaration_limit : ℕ
@@ -277,7 +278,7 @@ abbrev pub typed_by : Whole → List Item → Typed
 typed_by w items = record {
   structs = struct_by w.sizes w.structs;
   globals = globals_by w.tags items;
-  functions = functions_by (judged w items).value;
+  functions = numbered (functions_by (judged w items).value);
   main = main_number w;
 }
 

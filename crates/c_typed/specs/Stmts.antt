@@ -1,6 +1,7 @@
 -- Statements (C99 6.8, and `par`), one case for each form.
 use Rattle.std.specs.Prelude.{Bool, true, false, ◌&&◌, not, nat_le, List, [], map, length, Option, Some, None}
 use Rattle.dfi_base.specs.declared.numbers.Line.{Line}
+use Rattle.c_ast.specs.declared.ident.Ident.{Ident}
 use Rattle.c_ast.specs.declared.expr.Expr.{Expr as SourceExpr}
 use Rattle.c_ast.specs.declared.stmt.AssignOp.{AssignOp}
 use Rattle.c_ast.specs.declared.stmt.Simple.{Simple}
@@ -18,10 +19,10 @@ use Rattle.c_typed.specs.declared.stmt.Stmt.{Stmt, roll-Stmt}
 use Rattle.c_typed.specs.declared.stmt.Stmt.TheOpen.{Stmt-F}
 use Rattle.c_typed.specs.Types.{fits, suits, scalar_type, is_truth}
 use Rattle.c_typed.specs.Marks.{opens, closes, block, loop, branch, around, in_loop, in_branch, result_at}
-use Rattle.c_typed.specs.Whole.{Whole}
+use Rattle.c_typed.specs.Whole.{Whole, Builtin, Meaning, meaning}
 use Rattle.c_typed.specs.Faults.{mismatch, escape, branches, unless}
 use Rattle.c_typed.specs.Parts.{Part, tokens, mark, obeys, with_faults, in_turn, if_there, ◌⊗◌, ◌<⊗◌, ◌⊗>◌, ◌<$>◌}
-use Rattle.c_typed.specs.Exprs.{Reading, expr, value, place, call}
+use Rattle.c_typed.specs.Exprs.{Reading, expr, value, place, put, freed, arguments, called, call_as}
 use Rattle.c_typed.specs.Decls.{local_decl}
 
 abbrev pub Layer : Type 0
@@ -44,6 +45,7 @@ moves AssignOp.Sub = true
 moves _ = false
 
 abbrev pub compounds : AssignOp → ExprType → ExprType → Bool
+compounds op t ExprType.Void = false
 compounds op ExprType.Unknown v = true
 compounds op t ExprType.Unknown = true
 compounds op ExprType.Int ExprType.Int = true
@@ -71,6 +73,21 @@ assigned line op target v =
 abbrev pub counted : Expr → Layer → Option Stmt
 counted target layer = elim (scalar_at target.typing) [ None ↦ None | Some t ↦ Some (roll-Stmt layer) ]
 
+-- A call: `putint` and `free` are statements of their own.
+abbrev pub call_by : Whole → Ident → List Reading → Meaning → Part Stmt
+call_by w f rs (Meaning.builtin Builtin.putint) =
+    (λ e. roll-Stmt (Stmt-F.PutInt f.line e)) <$> obeys mismatch f.line (λ h es. put es) (called (arguments rs))
+call_by w f rs (Meaning.builtin Builtin.free) =
+    (λ e. roll-Stmt (Stmt-F.Free f.line e)) <$> obeys mismatch f.line (λ h es. freed es) (called (arguments rs))
+call_by w f rs m = (λ e. roll-Stmt (Stmt-F.Call f.line e)) <$> call_as w f.line f rs m
+
+abbrev pub call_stmt : Whole → Ident → List Reading → Part Stmt
+call_stmt w f rs = record {
+  tokens = (called (arguments rs)).tokens;
+  marks = [];
+  judge = λ here. (call_by w f rs (meaning w here.before f.name)).judge here;
+}
+
 abbrev pub simple : Whole → Simple → Part Stmt
 simple w (Simple.Assign line target op v) =
     obeys mismatch line (λ h e. assigned line op e.0 e.1) (place (expr w target) <⊗ tokens 1 ⊗ value (expr w v))
@@ -82,7 +99,7 @@ simple w (Simple.PreIncrement line target) =
     obeys mismatch line (λ h e. counted e (Stmt-F.Increment line e)) (tokens 1 ⊗> place (expr w target))
 simple w (Simple.PreDecrement line target) =
     obeys mismatch line (λ h e. counted e (Stmt-F.Decrement line e)) (tokens 1 ⊗> place (expr w target))
-simple w (Simple.Call f args) = (λ e. roll-Stmt (Stmt-F.Call f.line e)) <$> call w f.line f (map (expr w) args)
+simple w (Simple.Call f args) = call_stmt w f (map (expr w) args)
 
 -- A value exactly where the function is not void, and of its result's type.
 abbrev pub returns : Line → Option ObjectType → Option Expr → Option Stmt

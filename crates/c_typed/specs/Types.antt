@@ -113,8 +113,14 @@ scalar_by t (n ∷ ns) = None
 abbrev pub scalar_type : ObjectType → Option ExprType
 scalar_type t = scalar_by t t.lengths
 
--- a value of the first type where one of the second is wanted: the same type, or null for a pointer; what has no type fits anything
+abbrev pub has_value : ExprType → Bool
+has_value ExprType.Void = false
+has_value _ = true
+
+-- a value of the first type where one of the second is wanted: the same type, or null for a pointer; what has no type fits anything, and
+-- a call without a value nothing
 abbrev pub suits : ExprType → ExprType → Bool
+suits ExprType.Void t = false
 suits ExprType.Unknown t = true
 suits s ExprType.Unknown = true
 suits ExprType.Int ExprType.Int = true
@@ -130,9 +136,9 @@ suits_some v (Some t) = suits v t
 abbrev pub fits : ExprType → ObjectType → Bool
 fits v t = suits_some v (scalar_type t)
 
--- a value for a parameter: one of a struct's type has a fault of its own, and takes anything
+-- a value for a parameter: one of a struct's type has a fault of its own, and takes any value
 abbrev pub accepts_some : ExprType → Option ExprType → Bool
-accepts_some v None = true
+accepts_some v None = has_value v
 accepts_some v (Some t) = suits v t
 
 abbrev pub accepts : ExprType → ObjectType → Bool

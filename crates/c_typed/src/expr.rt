@@ -70,10 +70,9 @@ pub enum Form {
     },
     GetInt,
     Left,
-    PutInt(Boxed<Expr>),
-    Free(Boxed<Expr>),
-    /// `malloc` of `count` items, or of one.
+    /// `malloc` of `count` items, or of one. Its site is numbered in the order of the code, over the whole program.
     New {
+        site: u32,
         item: ObjectType,
         count: Option<Boxed<Expr>>,
     },

@@ -42,9 +42,20 @@ pub enum Stmt {
         line: Line,
         target: Expr,
     },
+    /// A call of any other function, or of `getint`, `left` or `malloc`, whose value goes unused.
     Call {
         line: Line,
         call: Expr,
+    },
+    /// `putint` of an `int`.
+    PutInt {
+        line: Line,
+        value: Expr,
+    },
+    /// `free` of a pointer.
+    Free {
+        line: Line,
+        pointer: Expr,
     },
     Return {
         line: Line,

@@ -2,7 +2,7 @@
 
 ghost use Rattle.std.specs.Prelude.{◌≡◌, ◌∷◌, ◌<◌, ◌≤◌, ◌^◌, IfOk, IfErr, OnOk, Some, None, length};
 ghost use Rattle.c_typed.specs.Decls.{is_scalar};
-ghost use Rattle.c_typed.specs.Types.{same_base, same_lengths, same_object, is_known, is_unknown, suits, fits, accepts, is_truth, scalar, scalar_type, value_type};
+ghost use Rattle.c_typed.specs.Types.{same_base, same_lengths, same_object, is_known, is_unknown, has_value, suits, fits, accepts, is_truth, scalar, scalar_type, value_type};
 
 use sqlite_items::Items;
 use std::alloc::{AllocError, Global};
@@ -146,12 +146,12 @@ impl ObjectType {
     }
 
     /// Whether a value of type `v` may be the argument for a parameter of this type: one of a struct's type has a fault of
-    /// its own, and takes anything.
+    /// its own, and takes any value.
     pub fn accepts(&self, alloc: Global, v: &ExprType) -> bool
         ensures { result ≡ accepts v.now self.now }
     {
         match self.scalar(alloc) {
-            None => true,
+            None => v.has_value(),
             Some(wanted) => v.suits(&wanted),
         }
     }
@@ -178,11 +178,19 @@ impl ExprType {
         ensures { result ≡ suits self.now wanted.now }
     {
         match (self, wanted) {
+            (ExprType::Void, _) => false,
             (ExprType::Int, ExprType::Int) | (ExprType::Null, ExprType::Pointer(_)) => true,
             (ExprType::Unknown, _) | (_, ExprType::Unknown) => true,
             (ExprType::Pointer(left), ExprType::Pointer(right)) => left.is(right),
             _ => false,
         }
+    }
+
+    /// Whether there is a value at all.
+    pub fn has_value(&self) -> bool
+        ensures { result ≡ has_value self.now }
+    {
+        !matches!(self, ExprType::Void)
     }
 
     /// Whether it is that of a part with a fault of its own.

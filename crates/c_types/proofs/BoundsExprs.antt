@@ -16,9 +16,10 @@ use Rattle.c_typed.specs.declared.expr.Expr.{Expr}
 use Rattle.c_typed.specs.Marks.{Variable}
 use Rattle.c_typed.specs.Whole.{Whole, Builtin, Meaning, meaning, is_main}
 use Rattle.c_typed.specs.Faults.{Fault, unknown, mismatch, not_lvalue}
-use Rattle.c_typed.specs.Parts.{Place, Part, tokens, given, joined, obeys, refused, ◌⊗◌, ◌<⊗◌, ◌⊗>◌}
+use Rattle.c_typed.specs.Parts.{Place, Part, tokens, given, joined, obeys, refused, ◌⊗◌, ◌<⊗◌, ◌⊗>◌, ◌<$>◌}
 use Rattle.c_typed.specs.Tags.{base, type_name, known_tag}
 use Rattle.c_typed.specs.Exprs
+use Rattle.c_typed.specs.Stmts.{call_by, call_stmt}
 use Rattle.c_typed.specs.Exprs.{Layer, Size, Reading, value, place, unary, product, counted_by, many_of, one_of, field_of, fielded, in_struct, found_by, field_by, name, name_as, arguments, called, call, call_as, allocation, allocation_by, form_step, expr}
 use Rattle.c_types.proofs.Bounds.{IsWithin, IsBounded, IsInside, inside, inside_tokens, inside_joined, bounded_first, bounded_second, bounded_tokens, bounded_obeys, bounded_refused, before_more, from_append, before_append}
 use Rattle.c_typed.proofs.Levels.{mapped_form, read_form, form_roll, expr_reads}
@@ -153,6 +154,9 @@ allocation_is line (r ∷ []) all = by_size r.size all.0.size where
   }
 allocation_is line (r ∷ s ∷ rs) all = record { bounded = bounded_refused mismatch line _ (with_arguments (r ∷ s ∷ rs) all); as_long = refl }
 
+bounded_map : {A B : Type 0} (f : A → B) (p : Part A) → IsBounded p → IsBounded (f <$> p)
+bounded_map f p b = record { within = λ here. b.within here; more = b.more }
+
 call_is : (w : Whole) (line : Line) (f : Ident) (rs : List Reading) (m : Meaning) → AllRead rs → IsCall (call_as w line f rs m) rs
 call_is w line f rs (Meaning.object v) all = record { bounded = bounded_refused mismatch f.line _ (with_arguments rs all); as_long = refl }
 call_is w line f rs Meaning.nothing all = record { bounded = bounded_refused unknown f.line _ (with_arguments rs all); as_long = refl }
@@ -163,8 +167,8 @@ call_is w line f rs (Meaning.function k s) all =
     ]
 call_is w line f rs (Meaning.builtin Builtin.getint) all = record { bounded = bounded_obeys mismatch line _ _ (with_arguments rs all); as_long = refl }
 call_is w line f rs (Meaning.builtin Builtin.left) all = record { bounded = bounded_obeys mismatch line _ _ (with_arguments rs all); as_long = refl }
-call_is w line f rs (Meaning.builtin Builtin.putint) all = record { bounded = bounded_obeys mismatch line _ _ (with_arguments rs all); as_long = refl }
-call_is w line f rs (Meaning.builtin Builtin.free) all = record { bounded = bounded_obeys mismatch line _ _ (with_arguments rs all); as_long = refl }
+call_is w line f rs (Meaning.builtin Builtin.putint) all = record { bounded = bounded_map _ _ (bounded_obeys mismatch line (λ h es. Exprs.put es) _ (with_arguments rs all)); as_long = refl }
+call_is w line f rs (Meaning.builtin Builtin.free) all = record { bounded = bounded_map _ _ (bounded_obeys mismatch line (λ h es. Exprs.freed es) _ (with_arguments rs all)); as_long = refl }
 call_is w line f rs (Meaning.builtin Builtin.malloc) all = allocation_is line rs all
 
 bounded_call : (w : Whole) (line : Line) (f : Ident) (rs : List Reading) → AllRead rs → IsBounded (call w line f rs)
@@ -172,6 +176,28 @@ bounded_call w line f rs all = record {
   within = λ here.
       let is = call_is w line f rs (meaning w here.before f.name) all in
       subst (λ n. IsWithin here.at (here.at + n) ((call_as w line f rs (meaning w here.before f.name)).judge here).faults) is.as_long (is.bounded.within here);
+  more = (with_arguments rs all).more;
+}
+
+-- the same of a call that is a statement
+unused_within : (w : Whole) (f : Ident) (rs : List Reading) (m : Meaning) → AllRead rs → (here : Place) → IsWithin here.at (here.at + (called (arguments rs)).tokens) ((call_as w f.line f rs m).judge here).faults
+unused_within w f rs m all here =
+    let is = call_is w f.line f rs m all in
+    subst (λ n. IsWithin here.at (here.at + n) ((call_as w f.line f rs m).judge here).faults) is.as_long (is.bounded.within here)
+
+call_by_within : (w : Whole) (f : Ident) (rs : List Reading) (m : Meaning) → AllRead rs → (here : Place) → IsWithin here.at (here.at + (called (arguments rs)).tokens) ((call_by w f rs m).judge here).faults
+call_by_within w f rs (Meaning.object v) all here = unused_within w f rs (Meaning.object v) all here
+call_by_within w f rs Meaning.nothing all here = unused_within w f rs Meaning.nothing all here
+call_by_within w f rs (Meaning.function k s) all here = unused_within w f rs (Meaning.function k s) all here
+call_by_within w f rs (Meaning.builtin Builtin.getint) all here = unused_within w f rs (Meaning.builtin Builtin.getint) all here
+call_by_within w f rs (Meaning.builtin Builtin.left) all here = unused_within w f rs (Meaning.builtin Builtin.left) all here
+call_by_within w f rs (Meaning.builtin Builtin.putint) all here = (bounded_obeys mismatch f.line (λ h es. Exprs.put es) _ (with_arguments rs all)).within here
+call_by_within w f rs (Meaning.builtin Builtin.free) all here = (bounded_obeys mismatch f.line (λ h es. Exprs.freed es) _ (with_arguments rs all)).within here
+call_by_within w f rs (Meaning.builtin Builtin.malloc) all here = unused_within w f rs (Meaning.builtin Builtin.malloc) all here
+
+bounded_stmt : (w : Whole) (f : Ident) (rs : List Reading) → AllRead rs → IsBounded (call_stmt w f rs)
+bounded_stmt w f rs all = record {
+  within = λ here. call_by_within w f rs (meaning w here.before f.name) all here;
   more = (with_arguments rs all).more;
 }
 
@@ -224,3 +250,10 @@ pub bounded : (w : Whole) (e : SourceExpr) → IsRead (expr w e)
 bounded w = ind-Expr (FormRead w) (ExprRead w)
     (λ x y is line. subst (λ r. IsRead r) (sym (form_roll w line x)) (subst (λ x. IsRead (form_step w (mapped_form w x) line)) is (level_read w line y)))
     (λ x y is. subst (λ x. IsRead (expr w (record { line = x.line; form = x.form }))) is (subst (λ r. IsRead r) (sym (expr_reads w y.line y.form.0)) (y.form.1 y.line)))
+
+all_bounded : (w : Whole) (es : List SourceExpr) → AllRead (map (expr w) es)
+all_bounded w [] = tt
+all_bounded w (e ∷ es) = (bounded w e, all_bounded w es)
+
+pub bounded_call_stmt : (w : Whole) (f : Ident) (es : List SourceExpr) → IsBounded (call_stmt w f (map (expr w) es))
+bounded_call_stmt w f es = bounded_stmt w f (map (expr w) es) (all_bounded w es)

@@ -1,7 +1,6 @@
 -- The faults of a statement stand within it.
 use Rattle.std.proofs.Common.{List, [], ◌∷◌, map, Option, Some, None, refl, sym, subst, arith}
 use Rattle.dfi_base.specs.declared.numbers.Line.{Line}
-use Rattle.c_ast.specs.declared.ident.Ident.{Ident}
 use Rattle.c_ast.specs.declared.expr.Expr.{Expr as SourceExpr}
 use Rattle.c_ast.specs.declared.stmt.Simple.{Simple}
 use Rattle.c_ast.specs.declared.stmt.ForStart.{ForStart}
@@ -12,12 +11,11 @@ use Rattle.c_ast.specs.declared.stmt.Stmt.TheOpen.{Stmt-F as Source}
 use Rattle.c_typed.specs.declared.stmt.Stmt.{Stmt, roll-Stmt as roll}
 use Rattle.c_typed.specs.Whole.{Whole}
 use Rattle.c_typed.specs.Parts.{Part, tokens, ◌<⊗◌, ◌⊗>◌}
-use Rattle.c_typed.specs.Exprs.{expr, value, place, call}
+use Rattle.c_typed.specs.Exprs.{expr, value, place}
 use Rattle.c_typed.specs.Stmts.{Layer, empty, simple, condition, value_there, condition_there, within_loop, block_item, body, branch_of, start, step, stmt_step, stmt}
-use Rattle.c_ast.specs.declared.expr.Form.TheVariants as form
-use Rattle.c_typed.proofs.Levels.{items_of, blocks_of, first_items, mapped, stmt_roll, call_is}
+use Rattle.c_typed.proofs.Levels.{items_of, blocks_of, first_items, mapped, stmt_roll}
 use Rattle.c_types.proofs.Bounds.{IsBounded, IsInside, inside, inside_tokens, inside_given, inside_map, bounded_first, bounded_second, bounded_tokens, bounded_obeys}
-use Rattle.c_types.proofs.BoundsExprs.{bounded, bounded_value, bounded_place}
+use Rattle.c_types.proofs.BoundsExprs.{bounded, bounded_value, bounded_place, bounded_call_stmt}
 use Rattle.c_types.proofs.BoundsDecls.{AllInside, none, each, beside, before, after, inside_mark, inside_in_turn, inside_with, within_unless, inside_local_decl}
 
 bounded_value_of : (w : Whole) (e : SourceExpr) → IsBounded (value (expr w e))
@@ -25,11 +23,6 @@ bounded_value_of w e = bounded_value (expr w e) (bounded w e)
 
 bounded_place_of : (w : Whole) (e : SourceExpr) → IsBounded (place (expr w e))
 bounded_place_of w e = bounded_place (expr w e) (bounded w e)
-
-bounded_call_of : (w : Whole) (f : Ident) (args : List SourceExpr) → IsBounded (call w f.line f (map (expr w) args))
-bounded_call_of w f args =
-    let e : SourceExpr = record { line = f.line; form = form.Call f args } in
-    subst (λ r. IsBounded r.plain) (call_is w e f args refl) (bounded w e).plain
 
 pub inside_condition : (w : Whole) (e : SourceExpr) → IsBounded (condition w e)
 inside_condition w e = bounded_obeys _ _ _ _ (bounded_value_of w e)
@@ -46,7 +39,7 @@ inside_simple w (Simple.Increment line target) = inside _ (bounded_obeys _ _ _ _
 inside_simple w (Simple.Decrement line target) = inside _ (bounded_obeys _ _ _ _ (behind_place w target))
 inside_simple w (Simple.PreIncrement line target) = inside _ (bounded_obeys _ _ _ _ (before_place w target))
 inside_simple w (Simple.PreDecrement line target) = inside _ (bounded_obeys _ _ _ _ (before_place w target))
-inside_simple w (Simple.Call f args) = inside_map _ _ (inside _ (bounded_call_of w f args))
+inside_simple w (Simple.Call f args) = inside _ (bounded_call_stmt w f args)
 
 pub inside_value_there : (w : Whole) (v : Option SourceExpr) → IsInside (value_there w v)
 inside_value_there w None = inside_given None

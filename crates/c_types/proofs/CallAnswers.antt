@@ -11,13 +11,17 @@ use Rattle.c_typed.specs.declared.expr.Form.TheOpen.{Form-F}
 use Rattle.c_typed.specs.Marks.{History}
 use Rattle.c_typed.specs.Whole.{Whole, Builtin, Meaning, meaning, is_main}
 use Rattle.c_typed.specs.Faults.{Rule, Fault, unknown, mismatch}
-use Rattle.c_typed.specs.Parts.{Place, Part, given, tokens, joined, behind, obeys, refused, ◌<⊗◌, ◌⊗>◌}
+use Rattle.c_typed.specs.Parts.{Place, Part, given, tokens, joined, behind, obeys, refused, ◌<⊗◌, ◌⊗>◌, ◌<$>◌}
 use Rattle.c_typed.specs.Exprs as defined
 use Rattle.c_typed.specs.Exprs.{Reading, Size, called, call_as}
 use Rattle.c_types.specs.tools.Answers.{Answers}
 use Rattle.c_types.specs.tools.Steps.{Found, ◌>>=◌, broken, kept}
 use Rattle.c_types.specs.tools.Tables.{looked}
+use Rattle.c_typed.specs.declared.stmt.Stmt.{Stmt, roll-Stmt}
+use Rattle.c_typed.specs.declared.stmt.Stmt.TheOpen.{Stmt-F}
+use Rattle.c_typed.specs.Stmts.{call_by, call_stmt}
 use Rattle.c_types.specs.tools.ExprWalk as walk
+use Rattle.c_types.specs.tools.StmtWalk as stmts
 use Rattle.c_types.specs.tools.ExprWalk.{Finding}
 use Rattle.c_types.proofs.AnswerLaws.{AllFrom, least_append}
 use Rattle.c_types.proofs.Bounds.{IsInside, IsBounded, inside, inside_tokens, inside_joined, from_append}
@@ -26,7 +30,7 @@ use Rattle.c_types.proofs.FormLaws.{after_tokens, before_tokens}
 use Rattle.c_typed.proofs.Quiet.{no_marks, before_same}
 use Rattle.c_types.proofs.Outlined.{IsOutline, Names, spelled_so, spelled_builtin, signature_of}
 use Rattle.c_types.proofs.Meanings.{IsMet, met}
-use Rattle.c_types.proofs.ExprAnswers.{obeys_answers, joined_answers, BothAgree, Agrees, value_answers}
+use Rattle.c_types.proofs.ExprAnswers.{obeys_answers, joined_answers, map_answers, BothAgree, Agrees, value_answers}
 use Rattle.c_types.proofs.FormAnswers.{bind_same}
 
 -- The arguments.
@@ -93,7 +97,7 @@ freed_same (e ∷ []) = refl
 freed_same (e ∷ f ∷ es) = refl
 
 allocated_type : (s : Size) (n : Expr) (t : ExprType)
-    → elim t as (λ t. Option Expr) [ ExprType.Int ↦ Some (defined.made (ExprType.Pointer s.item) (Form-F.New s.item (Some n))) | ExprType.Unknown ↦ Some (defined.made (ExprType.Pointer s.item) (Form-F.New s.item (Some n))) | _ ↦ None ] ≡ walk.new_by s.item n t
+    → elim t as (λ t. Option Expr) [ ExprType.Int ↦ Some (defined.made (ExprType.Pointer s.item) (Form-F.New 0 s.item (Some n))) | ExprType.Unknown ↦ Some (defined.made (ExprType.Pointer s.item) (Form-F.New 0 s.item (Some n))) | _ ↦ None ] ≡ walk.new_by s.item n t
 allocated_type s n ExprType.Int = refl
 allocated_type s n (ExprType.Pointer t) = refl
 allocated_type s n (ExprType.Place t) = refl
@@ -127,14 +131,26 @@ ruled_call : (h : History) (line : Line) (keeps : List Expr → Option Expr) {rs
 ruled_call h line keeps {rs} {fs} all here at =
     obeys_answers mismatch line (λ h es. keeps es) (called (defined.arguments rs)) here (walk.arguments fs) (called_answers (defined.arguments rs) here (walk.arguments fs) (arguments_answer h all (behind (tokens 2) here) at))
 
+put_answers : (h : History) (line : Line) {rs : List Reading} {fs : List Finding} → AllAgree h rs fs → (here : Place) → here.before ≡ h
+    → Answers ((obeys mismatch line (λ h es. defined.put es) (called (defined.arguments rs))).judge here) (walk.put_walk line fs)
+put_answers h line {rs} {fs} all here at =
+    subst (Answers ((obeys mismatch line (λ h es. defined.put es) (called (defined.arguments rs))).judge here)) (bind_same (walk.arguments fs) _ _ (λ es. ap (kept mismatch line) (put_same es)))
+    (ruled_call h line defined.put all here at)
+
+free_answers : (h : History) (line : Line) {rs : List Reading} {fs : List Finding} → AllAgree h rs fs → (here : Place) → here.before ≡ h
+    → Answers ((obeys mismatch line (λ h es. defined.freed es) (called (defined.arguments rs))).judge here) (walk.free_walk line fs)
+free_answers h line {rs} {fs} all here at =
+    subst (Answers ((obeys mismatch line (λ h es. defined.freed es) (called (defined.arguments rs))).judge here)) (bind_same (walk.arguments fs) _ _ (λ es. ap (kept mismatch line) (freed_same es)))
+    (ruled_call h line defined.freed all here at)
+
 builtin_answers : (w : Whole) (o : Outline) (h : History) (line : Line) (f : Ident) (b : Builtin) {rs : List Reading} {fs : List Finding} → AllAgree h rs fs → (here : Place) → here.before ≡ h
     → CallAnswers w line f rs here (Meaning.builtin b) (walk.spelled_call o line (spelled_builtin (Some b)) f fs)
 builtin_answers w o h line f Builtin.getint all here at = ruled_call h line (defined.asked Form-F.GetInt) all here at
 builtin_answers w o h line f Builtin.left all here at = ruled_call h line (defined.asked Form-F.Left) all here at
 builtin_answers w o h line f Builtin.putint {rs} {fs} all here at =
-    subst (CallAnswers w line f rs here (Meaning.builtin Builtin.putint)) (bind_same (walk.arguments fs) _ _ (λ es. ap (kept mismatch line) (put_same es))) (ruled_call h line defined.put all here at)
+    map_answers (λ _. defined.no_value) (obeys mismatch line (λ h es. defined.put es) (called (defined.arguments rs))) here (walk.put_walk line fs) (put_answers h line all here at)
 builtin_answers w o h line f Builtin.free {rs} {fs} all here at =
-    subst (CallAnswers w line f rs here (Meaning.builtin Builtin.free)) (bind_same (walk.arguments fs) _ _ (λ es. ap (kept mismatch line) (freed_same es))) (ruled_call h line defined.freed all here at)
+    map_answers (λ _. defined.no_value) (obeys mismatch line (λ h es. defined.freed es) (called (defined.arguments rs))) here (walk.free_walk line fs) (free_answers h line all here at)
 builtin_answers w o h line f Builtin.malloc all here at = allocation_answers h line all here at
 
 abbrev FunctionAnswers : Line → Ident → List Reading → Place → ℕ → OutlineSignature → Bool → Found Expr → Type 0
@@ -184,3 +200,54 @@ pub call_answers : (w : Whole) (o : Outline) (h : History) (k : Known) → IsOut
     → (here : Place) → here.before ≡ h → Answers ((defined.call w line f rs).judge here) (walk.call_walk o k line f fs)
 call_answers w o h k is names line f {rs} {fs} all here at =
     subst (λ h. CallAnswers w line f rs here (meaning w h f.name) (walk.call_walk o k line f fs)) (sym at) (call_met w o h k line f all here at (met w o h k is names f.name))
+
+-- The same of a call that is a statement.
+abbrev StmtAnswers : Whole → Ident → List Reading → Place → Meaning → Found Stmt → Type 0
+StmtAnswers w f rs here m r = Answers ((call_by w f rs m).judge here) r
+
+abbrev called_stmt : Line → Expr → Stmt
+called_stmt line e = roll-Stmt (Stmt-F.Call line e)
+
+unused_answers : (w : Whole) (f : Ident) (rs : List Reading) (here : Place) (m : Meaning) (r : Found Expr) → CallAnswers w f.line f rs here m r
+    → Answers ((called_stmt f.line <$> call_as w f.line f rs m).judge here) (r >>= (λ e. Ok (called_stmt f.line e)))
+unused_answers w f rs here m r is = map_answers (called_stmt f.line) (call_as w f.line f rs m) here r is
+
+builtin_stmt : (w : Whole) (o : Outline) (h : History) (k : Known) (f : Ident) (b : Builtin) {rs : List Reading} {fs : List Finding} → AllAgree h rs fs → (here : Place) → here.before ≡ h
+    → CallAnswers w f.line f rs here (Meaning.builtin b) (walk.call_walk o k f.line f fs) → StmtAnswers w f rs here (Meaning.builtin b) (stmts.spelled_walk o k f fs (spelled_builtin (Some b)))
+builtin_stmt w o h k f Builtin.getint {rs} all here at is = unused_answers w f rs here (Meaning.builtin Builtin.getint) _ is
+builtin_stmt w o h k f Builtin.left {rs} all here at is = unused_answers w f rs here (Meaning.builtin Builtin.left) _ is
+builtin_stmt w o h k f Builtin.putint {rs} {fs} all here at is =
+    map_answers (λ e. roll-Stmt (Stmt-F.PutInt f.line e)) (obeys mismatch f.line (λ h es. defined.put es) (called (defined.arguments rs))) here (walk.put_walk f.line fs) (put_answers h f.line all here at)
+builtin_stmt w o h k f Builtin.free {rs} {fs} all here at is =
+    map_answers (λ e. roll-Stmt (Stmt-F.Free f.line e)) (obeys mismatch f.line (λ h es. defined.freed es) (called (defined.arguments rs))) here (walk.free_walk f.line fs) (free_answers h f.line all here at)
+builtin_stmt w o h k f Builtin.malloc {rs} all here at is = unused_answers w f rs here (Meaning.builtin Builtin.malloc) _ is
+
+spelled_stmt : (o : Outline) (k : Known) (f : Ident) (fs : List Finding) (b : Bool) → stmts.spelled_walk o k f fs (spelled_so b None) ≡ stmts.unused_walk o k f fs
+spelled_stmt o k f fs true = refl
+spelled_stmt o k f fs false = refl
+
+stmt_met : (w : Whole) (o : Outline) (h : History) (k : Known) (f : Ident) {rs : List Reading} {fs : List Finding} → AllAgree h rs fs → (here : Place) → here.before ≡ h → IsMet w o h k f.name
+    → CallAnswers w f.line f rs here (meaning w h f.name) (walk.call_walk o k f.line f fs) → StmtAnswers w f rs here (meaning w h f.name) (stmts.call_walk o k f fs)
+stmt_met w o h k f {rs} {fs} all here at (IsMet.object b there means) is =
+    let m = Meaning.object (Rattle.c_types.proofs.Outlined.variable_at b.home b.number b.object) in
+    subst (λ m. StmtAnswers w f rs here m (stmts.call_walk o k f fs)) (sym means)
+    (subst (StmtAnswers w f rs here m) (sym (ap (stmts.call_by o k f fs) there)) (unused_answers w f rs here m _ (subst (λ m. CallAnswers w f.line f rs here m (walk.call_walk o k f.line f fs)) means is)))
+stmt_met w o h k f {rs} {fs} all here at (IsMet.builtin b missing spells means) is =
+    subst (λ m. StmtAnswers w f rs here m (stmts.call_walk o k f fs)) (sym means)
+    (subst (StmtAnswers w f rs here (Meaning.builtin b)) (sym (ap (stmts.call_by o k f fs) missing ∙ ap (stmts.spelled_walk o k f fs) spells))
+    (builtin_stmt w o h k f b all here at (subst (λ m. CallAnswers w f.line f rs here m (walk.call_walk o k f.line f fs)) means is)))
+stmt_met w o h k f {rs} {fs} all here at (IsMet.function j s missing spells number there means) is =
+    let m = Meaning.function j (signature_of s) in
+    subst (λ m. StmtAnswers w f rs here m (stmts.call_walk o k f fs)) (sym means)
+    (subst (StmtAnswers w f rs here m) (sym (ap (stmts.call_by o k f fs) missing ∙ ap (stmts.spelled_walk o k f fs) spells ∙ spelled_stmt o k f fs (is_main w f.name)))
+    (unused_answers w f rs here m _ (subst (λ m. CallAnswers w f.line f rs here m (walk.call_walk o k f.line f fs)) means is)))
+stmt_met w o h k f {rs} {fs} all here at (IsMet.nothing missing spells number means) is =
+    subst (λ m. StmtAnswers w f rs here m (stmts.call_walk o k f fs)) (sym means)
+    (subst (StmtAnswers w f rs here Meaning.nothing) (sym (ap (stmts.call_by o k f fs) missing ∙ ap (stmts.spelled_walk o k f fs) spells ∙ spelled_stmt o k f fs (is_main w f.name)))
+    (unused_answers w f rs here Meaning.nothing _ (subst (λ m. CallAnswers w f.line f rs here m (walk.call_walk o k f.line f fs)) means is)))
+
+pub call_stmt_answers : (w : Whole) (o : Outline) (h : History) (k : Known) → IsOutline w o → Names h k → (f : Ident) {rs : List Reading} {fs : List Finding} → AllAgree h rs fs
+    → (here : Place) → here.before ≡ h → Answers ((call_stmt w f rs).judge here) (stmts.call_walk o k f fs)
+call_stmt_answers w o h k is names f {rs} {fs} all here at =
+    subst (λ h. StmtAnswers w f rs here (meaning w h f.name) (stmts.call_walk o k f fs)) (sym at)
+    (stmt_met w o h k f all here at (met w o h k is names f.name) (call_met w o h k f.line f all here at (met w o h k is names f.name)))

@@ -6,10 +6,12 @@ use Rattle.c_types.specs.declared.programs.Program.{Program}
 use Rattle.c_typed.specs.Faults.{Fault, IsFirst, told}
 use Rattle.c_types.specs.tools.Steps.{Found}
 use Rattle.c_typed.specs.Typed.{Typed}
+use Rattle.c_typed.specs.Sites.{numbered}
 use Rattle.c_typed.specs.Programs.{faults_of, typed_of}
 
+-- with its sites numbered
 abbrev pub as_typed : Program → Typed
-as_typed p = record { structs = p.structs; globals = p.globals; functions = p.functions; main = p.main }
+as_typed p = record { structs = p.structs; globals = p.globals; functions = numbered p.functions; main = p.main }
 
 -- want of memory is free
 abbrev pub Judges : Ast → Found Program → Type 0

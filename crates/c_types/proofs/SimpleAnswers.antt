@@ -5,7 +5,6 @@ use Rattle.c_ast.specs.declared.expr.Expr.{Expr as SourceExpr}
 use Rattle.c_ast.specs.declared.stmt.AssignOp.{AssignOp}
 use Rattle.c_ast.specs.declared.stmt.Simple.{Simple}
 use Rattle.c_typed.specs.declared.expr.Expr.{Expr}
-use Rattle.c_typed.specs.declared.stmt.Stmt.{roll-Stmt}
 use Rattle.c_typed.specs.declared.stmt.Stmt.TheOpen.{Stmt-F}
 use Rattle.c_types.specs.declared.outline.Outline.{Outline}
 use Rattle.c_types.specs.declared.known.Known.{Known}
@@ -13,7 +12,7 @@ use Rattle.c_typed.specs.Marks.{History}
 use Rattle.c_typed.specs.Whole.{Whole}
 use Rattle.c_typed.specs.Faults.{mismatch}
 use Rattle.c_typed.specs.Parts.{Place, tokens, behind, obeys, ◌⊗◌, ◌<⊗◌, ◌⊗>◌}
-use Rattle.c_typed.specs.Exprs.{Reading, expr, value, place, call}
+use Rattle.c_typed.specs.Exprs.{Reading, expr, value, place}
 use Rattle.c_typed.specs.Stmts.{Layer, tested, assigned, counted, simple, condition, condition_by, value_there, condition_there}
 use Rattle.c_types.specs.tools.Answers.{Answers}
 use Rattle.c_types.specs.tools.Steps.{◌>>=◌, kept}
@@ -28,7 +27,7 @@ use Rattle.c_types.proofs.Outlined.{IsOutline, Names}
 use Rattle.c_types.proofs.ExprAnswers.{Agrees, obeys_answers, joined_answers, map_answers, value_answers, place_answers}
 use Rattle.c_types.proofs.FormAnswers.{both_bound}
 use Rattle.c_types.proofs.LevelAnswers.{expr_agrees, all_agrees}
-use Rattle.c_types.proofs.CallAnswers.{call_answers}
+use Rattle.c_types.proofs.CallAnswers.{call_stmt_answers}
 
 -- Conditions.
 condition_by_answers : (h : History) (r : Reading) (f : Finding) → Agrees h r f → (here : Place) → here.before ≡ h
@@ -84,5 +83,4 @@ module _ (w : Whole) (o : Outline) (h : History) (k : Known) (is_outline : IsOut
   simple_answers (Simple.PreIncrement line target) here at = before_answers h line (λ t. Stmt-F.Increment line t) (expr w target) (expr_walk o k target) (agrees target) here at
   simple_answers (Simple.PreDecrement line target) here at = before_answers h line (λ t. Stmt-F.Decrement line t) (expr w target) (expr_walk o k target) (agrees target) here at
   simple_answers (Simple.Call f args) here at =
-      map_answers (λ e. roll-Stmt (Stmt-F.Call f.line e)) (call w f.line f (map (expr w) args)) here (walk.call_walk o k f.line f (map (expr_walk o k) args))
-      (call_answers w o h k is_outline names f.line f (all_agrees w o h k is_outline names args) here at)
+      call_stmt_answers w o h k is_outline names f (all_agrees w o h k is_outline names args) here at

@@ -26,9 +26,9 @@ use Rattle.c_typed.specs.Faults.{mismatch, escape, unless}
 use Rattle.c_typed.specs.Whole.{Whole}
 use Rattle.c_typed.specs.Parts.{Part, tokens, obeys, mark, with_faults, if_there, separated, in_turn, ◌⊗◌, ◌<⊗◌, ◌⊗>◌, ◌<$>◌}
 use Rattle.c_typed.specs.Tags.{base}
-use Rattle.c_typed.specs.Exprs.{Reading, expr, value, place, call}
+use Rattle.c_typed.specs.Exprs.{Reading, expr, value, place}
 use Rattle.c_typed.specs.Decls.{declared, starts_with, by_value, joined_lists, local_decl}
-use Rattle.c_typed.specs.Stmts.{stmt, stmt_step, block_item, branch_of, assigned, counted, returns, condition_by}
+use Rattle.c_typed.specs.Stmts.{call_stmt, stmt, stmt_step, block_item, branch_of, assigned, counted, returns, condition_by}
 use Rattle.c_typed.specs.Programs.{with_part}
 use Rattle.c_typed.proofs.Levels.{stmt_roll, stmt_block, stmt_par, with_parts}
 use Rattle.c_typed.proofs.Small.{Tree, Trees, one, ident, written, all_written, read, reads, all_read, all_reads}
@@ -103,7 +103,7 @@ abbrev mutual
   part w (set t op v) = obeys mismatch one (λ h e. assigned one op e.0 e.1) (place (read w t) <⊗ tokens 1 ⊗ value (read w v)) <⊗ tokens 1
   part w (inc t) = obeys mismatch one (λ h e. counted e (Stmt-F.Increment one e)) (place (read w t) <⊗ tokens 1) <⊗ tokens 1
   part w (pre t) = obeys mismatch one (λ h e. counted e (Stmt-F.Increment one e)) (tokens 1 ⊗> place (read w t)) <⊗ tokens 1
-  part w (run f ts) = ((λ e. roll-Stmt (Stmt-F.Call one e)) <$> call w one (ident f) (all_read w ts)) <⊗ tokens 1
+  part w (run f ts) = call_stmt w (ident f) (all_read w ts) <⊗ tokens 1
   part w (ret t) =
       with_faults (λ here. unless (not (in_branch (around 0 here.before))) here.at escape one)
       (obeys mismatch one (λ h e. returns one (result_at h) e) (tokens 1 ⊗> if_there (Some (value (read w t))) <⊗ tokens 1))
@@ -139,7 +139,7 @@ mutual
       ∙ ap (λ x. obeys mismatch one (λ h e. assigned one op e.0 e.1) (place (read w t) <⊗ tokens 1 ⊗ value x) <⊗ tokens 1) (reads w v)
   parted w (inc t) = stmt_roll w _ ∙ ap (λ x. obeys mismatch one (λ h e. counted e (Stmt-F.Increment one e)) (place x <⊗ tokens 1) <⊗ tokens 1) (reads w t)
   parted w (pre t) = stmt_roll w _ ∙ ap (λ x. obeys mismatch one (λ h e. counted e (Stmt-F.Increment one e)) (tokens 1 ⊗> place x) <⊗ tokens 1) (reads w t)
-  parted w (run f ts) = stmt_roll w _ ∙ ap (λ x. ((λ e. roll-Stmt (Stmt-F.Call one e)) <$> call w one (ident f) x) <⊗ tokens 1) (all_reads w ts)
+  parted w (run f ts) = stmt_roll w _ ∙ ap (λ x. call_stmt w (ident f) x <⊗ tokens 1) (all_reads w ts)
   parted w (ret t) = stmt_roll w _ ∙ ap (λ x. with_faults (λ here. unless (not (in_branch (around 0 here.before))) here.at escape one)
       (obeys mismatch one (λ h e. returns one (result_at h) e) (tokens 1 ⊗> if_there (Some (value x)) <⊗ tokens 1))) (reads w t)
   parted w leave = stmt_roll w _

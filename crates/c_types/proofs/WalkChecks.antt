@@ -10,6 +10,7 @@ use Rattle.c_typed.specs.Whole.{Whole, whole_of}
 use Rattle.c_typed.specs.Faults.{Fault, no_main, unless}
 use Rattle.c_typed.specs.Parts.{Place}
 use Rattle.c_typed.specs.Decls.{joined_lists}
+use Rattle.c_typed.specs.Sites.{numbered}
 use Rattle.c_typed.specs.Programs.{text, judged, main_number, functions_by, faults_of, typed_of}
 use Rattle.c_types.specs.tools.Answers.{least}
 use Rattle.c_types.specs.tools.Steps.{Found, ◌>>=◌, each, one, kept}
@@ -75,11 +76,11 @@ module _ (a : Ast) where
   same_typed fss k found value keeps =
       let t = typed_of a in
       let limits : (n : ℕ) → get_or w.sizes n 0 ≤ 24576 = λ n. subst (λ ns. get_or ns n 0 ≤ 24576) (shaped a.names a.items).sizes ((typed_tabled a keeps).words n) in
-      ap (λ ss. record { structs = ss; globals = k.declared.globals; functions = joined_lists fss; main = main_number w })
+      ap (λ ss. record { structs = ss; globals = k.declared.globals; functions = numbered (joined_lists fss); main = main_number w })
       (structs_typed o.shapes w.structs w.sizes (outline_shapes a.names a.items) limits)
-      ∙ ap (λ gs. record { structs = t.structs; globals = gs; functions = joined_lists fss; main = main_number w })
+      ∙ ap (λ gs. record { structs = t.structs; globals = gs; functions = numbered (joined_lists fss); main = main_number w })
       (all_give w o (outline_is a.names a.items) a.items nothing_known (joined_lists fss, k) found)
-      ∙ ap (λ fs. record { structs = t.structs; globals = t.globals; functions = functions_by fs; main = main_number w }) (sym value)
+      ∙ ap (λ fs. record { structs = t.structs; globals = t.globals; functions = numbered (functions_by fs); main = main_number w }) (sym value)
 
   abbrev end_of : Option ℕ → List Function → Known → Found Program
   end_of m fs k = kept no_main a.last m >>= (λ n. Ok (parts_of o fs k n))

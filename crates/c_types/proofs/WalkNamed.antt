@@ -164,8 +164,8 @@ main_named (Some k) f = tt
 spelled_named : (o : Outline) (line : Line) (s : Spelling) (f : Ident) (fs : List Finding) → EachNamed fs → IsNamed (walk.spelled_call o line s f fs)
 spelled_named o line Spelling.GetInt f fs all = ruled mismatch line _ (walk.arguments fs) (arguments_named fs all)
 spelled_named o line Spelling.Left f fs all = ruled mismatch line _ (walk.arguments fs) (arguments_named fs all)
-spelled_named o line Spelling.PutInt f fs all = ruled mismatch line _ (walk.arguments fs) (arguments_named fs all)
-spelled_named o line Spelling.Free f fs all = ruled mismatch line _ (walk.arguments fs) (arguments_named fs all)
+spelled_named o line Spelling.PutInt f fs all = bind_named (walk.put_walk line fs) _ (ruled mismatch line _ (walk.arguments fs) (arguments_named fs all)) (λ e. tt)
+spelled_named o line Spelling.Free f fs all = bind_named (walk.free_walk line fs) _ (ruled mismatch line _ (walk.arguments fs) (arguments_named fs all)) (λ e. tt)
 spelled_named o line Spelling.Malloc f fs all = allocation_named line fs all
 spelled_named o line Spelling.Main f fs all = main_named (looked o.numbers f.name) f
 spelled_named o line Spelling.Other f fs all = numbered_named o line (looked o.numbers f.name) f fs all

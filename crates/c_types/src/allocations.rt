@@ -99,11 +99,16 @@ fn counted(
     Ok(of_items(alloc, item, Some(count))?)
 }
 
+/// Its site has no number yet.
 fn of_items(alloc: Global, item: ObjectType, count: Option<Boxed<Expr>>) -> Result<Expr, AllocError>
-    ensures { IfOk result (λ e. e ≡ made (ExprType.Pointer item) (Form-F.New item count)) }
+    ensures { IfOk result (λ e. e ≡ made (ExprType.Pointer item) (Form-F.New 0 item count)) }
 {
     Ok(Expr {
         typing: ExprType::Pointer(item.copy(alloc)?),
-        form: Form::New { item, count },
+        form: Form::New {
+            site: 0,
+            item,
+            count,
+        },
     })
 }

@@ -13,7 +13,7 @@ use crate::outline::{Outline, Signature};
 use c_ast::Ident;
 use c_typed::{Expr, ExprType, Form, ObjectType, TypeFault};
 use dfi_base::Line;
-use sqlite_items::{Boxed, Items};
+use sqlite_items::Items;
 use std::alloc::Global;
 
 pub fn get_int(line: Line, values: Items<Expr>) -> Result<Expr, TypeFault>
@@ -54,7 +54,8 @@ fn only(values: Items<Expr>) -> Option<Expr>
     }
 }
 
-pub fn put_int(alloc: Global, line: Line, values: Items<Expr>) -> Result<Expr, TypeFault>
+/// What `putint` is asked for.
+pub fn put_int(line: Line, values: Items<Expr>) -> Result<Expr, TypeFault>
     ensures { Finds result (kept faults.mismatch line (walk.put_only (walk.only values))) }
 {
     let Some(e) = only(values) else {
@@ -63,13 +64,11 @@ pub fn put_int(alloc: Global, line: Line, values: Items<Expr>) -> Result<Expr, T
     if !matches!(e.typing, ExprType::Int | ExprType::Unknown) {
         return refused(e, TypeFault::Mismatch { line });
     }
-    Ok(Expr {
-        typing: ExprType::Void,
-        form: Form::PutInt(Boxed::new(alloc, e)?),
-    })
+    Ok(e)
 }
 
-pub fn free(alloc: Global, line: Line, values: Items<Expr>) -> Result<Expr, TypeFault>
+/// What `free` is asked for.
+pub fn free(line: Line, values: Items<Expr>) -> Result<Expr, TypeFault>
     ensures { Finds result (kept faults.mismatch line (walk.freed_only (walk.only values))) }
 {
     let Some(e) = only(values) else {
@@ -81,9 +80,17 @@ pub fn free(alloc: Global, line: Line, values: Items<Expr>) -> Result<Expr, Type
     ) {
         return refused(e, TypeFault::Mismatch { line });
     }
+    Ok(e)
+}
+
+/// A call without a value, where one stands.
+pub fn no_value(asked: Result<Expr, TypeFault>) -> Result<Expr, TypeFault>
+    ensures { result ≡ walk.unvalued asked }
+{
+    drop(asked?);
     Ok(Expr {
         typing: ExprType::Void,
-        form: Form::Free(Boxed::new(alloc, e)?),
+        form: Form::Null,
     })
 }
 

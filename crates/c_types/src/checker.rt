@@ -13,10 +13,11 @@ pub fn check(alloc: Global, ast: Ast) -> Result<Typed, TypeFault>
     ensures { Checks ast result }
 {
     let program = programs::walk(alloc, ast.names.as_slice(), ast.items.as_slice(), ast.last)?;
+    let functions = c_sites::number(alloc, program.functions.as_slice())?;
     Ok(Typed {
         structs: program.structs,
         globals: program.globals,
-        functions: program.functions,
+        functions,
         main: program.main,
     })
 }

@@ -146,7 +146,7 @@ fn cast(
 
 /// The values of a call's arguments.
 #[cycle(exprs)]
-fn arguments(
+pub fn arguments(
     alloc: Global,
     outline: &Outline,
     known: &Known,
@@ -188,11 +188,11 @@ pub fn call(
         }
         Spelling::PutInt => {
             let values = arguments(alloc, outline, known, items)?;
-            calls::put_int(alloc, line, values)
+            calls::no_value(calls::put_int(line, values))
         }
         Spelling::Free => {
             let values = arguments(alloc, outline, known, items)?;
-            calls::free(alloc, line, values)
+            calls::no_value(calls::free(line, values))
         }
         Spelling::Malloc => match items {
             [e] => allocation(alloc, outline, known, line, e),

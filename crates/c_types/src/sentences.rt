@@ -32,6 +32,7 @@ fn compounds(op: AssignOp, target: &ExprType, value: &ExprType) -> bool
     ensures { result ≡ defined.compounds op target.now value.now }
 {
     match (target, value) {
+        (_, ExprType::Void) => false,
         (ExprType::Unknown, _) | (_, ExprType::Unknown) => true,
         (ExprType::Int, ExprType::Int) => true,
         (ExprType::Pointer(_), ExprType::Int) => moves(op),

@@ -1,6 +1,7 @@
 //! Statements of the source, form by form (C99 6.8, and `par`).
 
-ghost use Rattle.std.specs.Prelude.{◌≡◌};
+ghost use Rattle.std.specs.Prelude.{◌≡◌, map};
+ghost use Rattle.c_types.specs.tools.ExprWalk.{expr_walk};
 ghost use Rattle.c_typed.specs.declared.stmt.Stmt.TheOpen.{Stmt-F};
 ghost use Rattle.c_typed.specs.Stmts as defined;
 ghost use Rattle.c_types.specs.tools.Steps.{Finds, Leaves};
@@ -9,9 +10,9 @@ ghost use Rattle.c_types.specs.tools.StmtWalk as walk;
 use crate::decls::local_decl;
 use crate::held::refused;
 use crate::known::{Around, Known};
-use crate::outline::Outline;
-use crate::{exprs, sentences};
-use c_ast::{AssignOp, Expr as SourceExpr, ForStart, Simple};
+use crate::outline::{Outline, Spelling};
+use crate::{calls, exprs, sentences};
+use c_ast::{AssignOp, Expr as SourceExpr, ForStart, Ident, Simple};
 use c_typed::{Condition, Expr, Stmt, TypeFault};
 use dfi_base::Line;
 use sqlite_items::{Boxed, Items};
@@ -85,6 +86,72 @@ fn assignment(
     }
 }
 
+fn put_int(
+    alloc: Global,
+    outline: &Outline,
+    known: &Known,
+    line: Line,
+    items: &[SourceExpr],
+) -> Result<Stmt, TypeFault>
+    ensures { Finds result
+        (walk.put_walk line (map (expr_walk outline.now known.now) items.now)) }
+{
+    let values = exprs::arguments(alloc, outline, known, items)?;
+    let value = calls::put_int(line, values)?;
+    Ok(Stmt::PutInt { line, value })
+}
+
+fn free(
+    alloc: Global,
+    outline: &Outline,
+    known: &Known,
+    line: Line,
+    items: &[SourceExpr],
+) -> Result<Stmt, TypeFault>
+    ensures { Finds result
+        (walk.free_walk line (map (expr_walk outline.now known.now) items.now)) }
+{
+    let values = exprs::arguments(alloc, outline, known, items)?;
+    let pointer = calls::free(line, values)?;
+    Ok(Stmt::Free { line, pointer })
+}
+
+fn unused(
+    alloc: Global,
+    outline: &Outline,
+    known: &Known,
+    f: Ident,
+    items: &[SourceExpr],
+) -> Result<Stmt, TypeFault>
+    ensures { Finds result
+        (walk.unused_walk outline.now known.now f (map (expr_walk outline.now known.now) items.now)) }
+{
+    let line = f.line;
+    let call = exprs::call(alloc, outline, known, line, f, items)?;
+    Ok(Stmt::Call { line, call })
+}
+
+/// A call: `putint`, `free`, or any whose value goes unused.
+fn call(
+    alloc: Global,
+    outline: &Outline,
+    known: &Known,
+    f: Ident,
+    items: &[SourceExpr],
+) -> Result<Stmt, TypeFault>
+    ensures { Finds result
+        (walk.call_walk outline.now known.now f (map (expr_walk outline.now known.now) items.now)) }
+{
+    if known.find(f.name).is_some() {
+        return unused(alloc, outline, known, f, items);
+    }
+    match outline.spelling(f.name) {
+        Spelling::PutInt => put_int(alloc, outline, known, f.line, items),
+        Spelling::Free => free(alloc, outline, known, f.line, items),
+        _ => unused(alloc, outline, known, f, items),
+    }
+}
+
 /// A simple statement.
 pub fn simple(
     alloc: Global,
@@ -112,11 +179,7 @@ pub fn simple(
         Simple::Call {
             function,
             arguments,
-        } => {
-            let line = function.line;
-            let call = exprs::call(alloc, outline, known, line, *function, arguments.as_slice())?;
-            Ok(Stmt::Call { line, call })
-        }
+        } => call(alloc, outline, known, *function, arguments.as_slice()),
     }
 }
 

@@ -1,6 +1,5 @@
 -- The chain of trees of a history of a run over words of 32 bits.
-use Rattle.std.specs.Prelude.{◌≡◌, ℕ, Bool, true, false, Option, Some, None, List, [], ◌∷◌, ℤ}
-use Rattle.tac_ir.specs.declared.run.Answer.{Answer}
+use Rattle.std.specs.Prelude.{◌≡◌, ℕ, Bool, true, false, Option, Some, List, [], ◌∷◌, ℤ}
 use Rattle.tac_ir.specs.declared.run.Entry.{Entry}
 use Rattle.tac_ir.specs.Module.{Module}
 use Rattle.tac_ir.specs.Path.{stops}

@@ -10,3 +10,5 @@ pub mod Told
 mod Laws
 mod WordLaws
 pub mod Depth
+pub mod RowLaws
+mod PackedRows

@@ -11,3 +11,5 @@ pub mod Alike
 pub mod Told
 pub mod Laws
 pub mod WordLaws
+pub mod Bits
+pub mod tools

@@ -1,6 +1,8 @@
-//! The ground floor: want of memory, numbers with names of their own, limits, and text; and the laws of threads of any run.
+//! The ground floor: want of memory, numbers with names of their own, limits, text, and rows of bits; and the laws of threads of any run.
 #![tactic(auto)]
 
+mod bit_words;
+mod bits;
 mod failed;
 mod law;
 pub mod limits;
@@ -9,6 +11,7 @@ pub mod memory_map;
 mod numbers;
 mod text;
 
+pub use bits::Bits;
 pub use failed::Failed;
 pub use law::{
     branches_are_apart, depth_is_by_name, first_thread_lives, join_is_grown, lives_are_one,
@@ -17,18 +20,3 @@ pub use law::{
 pub use memory::Memory;
 pub use numbers::{DefNo, Line, Name, Point, ReadNo};
 pub use text::Text;
-
-#[cfg(test)]
-mod tests {
-    use super::*;
-    use std::test::Fail;
-
-    #[test]
-    fn a_text_holds_its_bytes(rt: HostRuntime) -> Result<(), Fail> {
-        for bytes in [b"".as_slice(), b"x".as_slice(), b"a\0\xff b\n".as_slice()] {
-            let text = Text::new(rt.alloc(), bytes)?;
-            assert_eq!(rt; text.bytes(), bytes);
-        }
-        Ok(())
-    }
-}

@@ -18,6 +18,3 @@ pub use library::Library;
 pub use pad::Pad;
 pub use shelf::Shelf;
 pub use sink::Sink;
-
-#[cfg(test)]
-mod tests;

@@ -12,8 +12,6 @@ mod counts;
 mod steps;
 mod straight;
 mod tables;
-#[cfg(test)]
-mod tests;
 
 use crate::tables::{Tables, make_tables};
 use dfi_base::Memory;

@@ -30,21 +30,34 @@ pub record IsAskedBy (c : Code) (o : Option FlatLife) (a : Asked) : Type 0 where
   pub point : a.point ≡ point_of life.top
   pub stack : a.stack ≡ life.top.stack
 
-pub asked_by : (c : Code) (o : Option FlatLife) (a : Asked) → asked_of c o ≡ Some a → IsAskedBy c o a
-asked_by c None a is = cc
-asked_by c (Some l) a is = by (want_of flat_meaning c l) refl is
+-- what a life asks for
+pub record IsAskedOf (c : Code) (l : FlatLife) (a : Asked) : Type 0 where
+  pub want : Want ℕ
+  pub wants : want_of flat_meaning c l ≡ Some want
+  pub event : op_of want ≡ Some a.op
+  pub point : a.point ≡ point_of l.top
+  pub stack : a.stack ≡ l.top.stack
+
+pub asked_of_life : (c : Code) (l : FlatLife) (a : Asked) → asks l (op_in (want_of flat_meaning c l)) ≡ Some a → IsAskedOf c l a
+asked_of_life c l a is = by (want_of flat_meaning c l) refl is
   where
-    with_op : (want : Want ℕ) → want_of flat_meaning c l ≡ Some want → (op : Option Op) → op_of want ≡ op → asks l op ≡ Some a → IsAskedBy c (Some l) a
+    with_op : (want : Want ℕ) → want_of flat_meaning c l ≡ Some want → (op : Option Op) → op_of want ≡ op → asks l op ≡ Some a → IsAskedOf c l a
     with_op want wants None event is = cc
     with_op want wants (Some op) event is =
         let op_is : op ≡ a.op = cc in
         let point_is : point_of l.top ≡ a.point = cc in
         let stack_is : l.top.stack ≡ a.stack = cc in
-        record { life = l; runs = refl; want = want; wants = wants; event = event ∙ ap Some op_is; point = sym point_is; stack = sym stack_is }
+        record { want = want; wants = wants; event = event ∙ ap Some op_is; point = sym point_is; stack = sym stack_is }
 
-    by : (want : Option (Want ℕ)) → want_of flat_meaning c l ≡ want → asks l (op_in want) ≡ Some a → IsAskedBy c (Some l) a
+    by : (want : Option (Want ℕ)) → want_of flat_meaning c l ≡ want → asks l (op_in want) ≡ Some a → IsAskedOf c l a
     by None wants is = cc
     by (Some want) wants is = with_op want wants (op_of want) refl is
+
+pub asked_by : (c : Code) (o : Option FlatLife) (a : Asked) → asked_of c o ≡ Some a → IsAskedBy c o a
+asked_by c None a is = cc
+asked_by c (Some l) a is =
+    let by = asked_of_life c l a is in
+    record { life = l; runs = refl; want = by.want; wants = by.wants; event = by.event; point = by.point; stack = by.stack }
 
 -- who runs asks for something
 pub asks_something : (m : Module) (h : List Entry) (f : FlatLives) (d : Option ℕ) (n : ℕ) (l : FlatLife) → AreAlive m h f d → running (f n) ≡ Some l → (op : Op) × (asked_of m.code (running (f n)) ≡ Some (record { point = point_of l.top; op = op; stack = l.top.stack }))

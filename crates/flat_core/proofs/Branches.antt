@@ -41,7 +41,7 @@ use Rattle.flat_core.specs.declared.store.Store.{Store}
 use Rattle.flat_core.specs.tools.Asked.{entry_of}
 use Rattle.flat_core.specs.Serves.{FlatThreads, Serves, Asks, IsPerformed}
 use Rattle.flat_core.proofs.Asking.{IsAskedBy, asked_by}
-use Rattle.flat_core.proofs.Telling.{wants_fork}
+use Rattle.path_law.proofs.Telling.{wants_fork}
 use Rattle.flat_core.proofs.Keeping.{is_write, after_other}
 use Rattle.flat_core.proofs.Performing.{stopped}
 

@@ -25,9 +25,10 @@ use Rattle.tac_thread.specs.Meaning.{Meaning}
 use Rattle.tac_thread.specs.tools.Fetched.{instr_in}
 use Rattle.tac_thread.specs.Life.{Life, instr_of}
 use Rattle.tac_thread.specs.Doing.{given, tested, leaves, doing, asked, link_write, want_at, want_of}
-use Rattle.tac_thread.specs.Answered.{IsReplyTo}
+use Rattle.tac_thread.specs.Answered.{answered}
+use Rattle.tac_thread.specs.RunsOn.{RunsOn}
+use Rattle.tac_thread.specs.Guests.{IsGuestOf, TakesReply}
 use Rattle.tac_thread.specs.Flat.{flat_meaning, with_frame}
-use Rattle.tac_thread.specs.Threads.{life_in, running, Takes, IsFed, IsTree}
 use Rattle.path_law.specs.Asked.{Tells}
 use Rattle.path_law.specs.Wants.{room_in}
 use Rattle.path_law.specs.Fits.{answer_by}
@@ -37,12 +38,14 @@ use Rattle.word_table.specs.Tables.{CanRun}
 use Rattle.flat_core.specs.declared.ask.Asked.{Asked}
 use Rattle.flat_core.specs.declared.store.Store.{Store}
 use Rattle.flat_core.specs.tools.Asked.{entry_of}
-use Rattle.flat_core.specs.Serves.{FlatThreads, Serves, Asks, IsPerformed}
+use Rattle.flat_core.specs.Store.{IsStore}
+use Rattle.flat_core.specs.Turns.{AsksFor, IsTurned}
+use Rattle.path_law.specs.Standing.{FlatLife}
+use Rattle.path_law.proofs.Telling.{wants_call}
 use Rattle.heap_desk.specs.Laws.{changes_desk}
-use Rattle.flat_core.proofs.Asking.{IsAskedBy, asked_by}
-use Rattle.flat_core.proofs.Telling.{wants_call}
+use Rattle.flat_core.proofs.Asking.{IsAskedOf, asked_of_life}
 use Rattle.flat_core.proofs.Keeping.{is_write, after_other}
-use Rattle.flat_core.proofs.Performing.{takes, fed_on, stopped}
+use Rattle.flat_core.proofs.Performing.{turned_by, turned_stop}
 
 -- Who calls a function calls one that exists.
 
@@ -111,14 +114,14 @@ call_exists {X} {T} m c l g good want = by l.stage (ap call_in want)
     by (Stage.Leaving v) is = cc
     by Stage.Waiting is = cc
 
--- what a thread asks for, where it calls
-calls : (m : Module) (t : FlatThreads) (n f : ℕ) (a : Asked) (by : IsAskedBy m.code (running (life_in t n)) a) → a.op ≡ Op.Call f → by.want ≡ Want.Call f
-calls m t n f a by op = wants_call by.want f (by.event ∙ ap Some op)
+-- what a life asks for, where it calls
+calls : (c : Code) (l : FlatLife) (f : ℕ) (a : Asked) (by : IsAskedOf c l a) → a.op ≡ Op.Call f → by.want ≡ Want.Call f
+calls c l f a by op = wants_call by.want f (by.event ∙ ap Some op)
 
-pub asked_exists : (m : Module) (t : FlatThreads) (n f : ℕ) (a : Asked) (c : Code) → c ≡ m.code → CanRun m → Asks m t n a → a.op ≡ Op.Call f → f < length c.funs
-asked_exists m t n f a c code can asks op =
-    let by = asked_by m.code (running (life_in t n)) a asks in
-    let below = call_exists flat_meaning m.code by.life f can.form (by.wants ∙ ap Some (calls m t n f a by op)) in
+pub asked_exists : (m : Module) (l : FlatLife) (f : ℕ) (a : Asked) (c : Code) → c ≡ m.code → CanRun m → AsksFor m l a → a.op ≡ Op.Call f → f < length c.funs
+asked_exists m l f a c code can asks op =
+    let by = asked_of_life m.code l a asks in
+    let below = call_exists flat_meaning m.code l f can.form (by.wants ∙ ap Some (calls m.code l f a by op)) in
     subst (λ k. f < length k.funs) (sym code) below
 
 -- Frames.
@@ -126,60 +129,31 @@ asked_exists m t n f a c code can asks op =
 le_self : (a b : ℕ) → a ≡ b → nat_le a b ≡ true
 le_self a b e = grind (arith, nat_le)
 
-pub takes_frame : (m : Module) (t : FlatThreads) (n f : ℕ) (a : Asked) (s : FlatStack) (c : Code) → c ≡ m.code → Asks m t n a → a.op ≡ Op.Call f → with_frame (frame_words c f) a.stack ≡ Some s
-    → Takes flat_meaning c (life_in t) n (ReplyOf.Stack s)
-takes_frame m t n f a s c code asks op fits = subst (λ k. Takes flat_meaning k (life_in t) n (ReplyOf.Stack s)) (sym code) here
-  where
-    by : IsAskedBy m.code (running (life_in t n)) a
-    by = asked_by m.code (running (life_in t n)) a asks
+pub takes_frame : (m : Module) (l : FlatLife) (f : ℕ) (a : Asked) (s : FlatStack) (c : Code) → c ≡ m.code → AsksFor m l a → a.op ≡ Op.Call f → with_frame (frame_words c f) a.stack ≡ Some s
+    → TakesReply flat_meaning c l (ReplyOf.Stack s)
+takes_frame m l f a s c code asks op fits =
+    let by = asked_of_life m.code l a asks in
+    let new = framed (frame_words c f) a.stack s fits in
+    let holds : nat_le (s.base + frame_words m.code f) s.top ≡ true = le_self _ _ (ap (λ k. s.base + frame_words k f) (sym code) ∙ ap (λ b. b + frame_words c f) new.base ∙ sym new.top) in
+    subst (λ k. TakesReply flat_meaning k l (ReplyOf.Stack s)) (sym code) (Want.Call f, by.wants ∙ ap Some (calls m.code l f a by op), holds)
 
-    kind : IsReplyTo flat_meaning m.code by.want (ReplyOf.Stack s)
-    kind =
-        let new = framed (frame_words c f) a.stack s fits in
-        let holds : nat_le (s.base + frame_words m.code f) s.top ≡ true = le_self _ _ (ap (λ k. s.base + frame_words k f) (sym code) ∙ ap (λ b. b + frame_words c f) new.base ∙ sym new.top) in
-        subst (λ w. IsReplyTo flat_meaning m.code w (ReplyOf.Stack s)) (sym (calls m t n f a by op)) holds
+pub called : (m : Module) (input : List ℤ) (h : List Entry) (l k : FlatLife) (r : Store) (n f : ℕ) (a : Asked) (s : FlatStack) (c : Code) → c ≡ m.code → IsStore m input h r → AsksFor m l a → a.op ≡ Op.Call f
+    → with_frame (frame_words c f) a.stack ≡ Some s → RunsOn flat_meaning c (answered flat_meaning c l (ReplyOf.Stack s)) k → IsGuestOf flat_meaning c k
+    → IsTurned m input h n l a Answer.Unit k r
+called m input h l k r n f a s c code store asks op fits run guest =
+    let here : with_frame (frame_words m.code f) a.stack ≡ Some s = ap (λ x. with_frame (frame_words x f) a.stack) (sym code) ∙ fits in
+    turned_by m input h l k r n a Answer.Unit (ReplyOf.Stack s) c code
+    (subst (λ o. IsAnswer m input h n (room_in a.stack) o Answer.Unit) (sym op) (sym (calls_fit m f a.stack ∙ ap (answer_by Stop.Stack) here)))
+    (takes_frame m l f a s c code asks op fits)
+    (subst (λ o. Tells m.code a.stack o Answer.Unit (ReplyOf.Stack s)) (sym op) here)
+    refl run guest
+    (after_other m input h r (entry_of n a Answer.Unit) (ap is_write op) (ap changes_desk op) store)
 
-    no_fork : (k : ℕ) → a.op ≡ Op.Fork k → ⊥
-    no_fork k is = let clash : Op.Call f ≡ Op.Fork k = sym op ∙ is in cc
-
-    here : Takes flat_meaning m.code (life_in t) n (ReplyOf.Stack s)
-    here = takes m.code (life_in t) n a (ReplyOf.Stack s) by kind no_fork
-
-pub called : (m : Module) (input : List ℤ) (h : List Entry) (t u : FlatThreads) (r : Store) (n f : ℕ) (a : Asked) (s : FlatStack) (c : Code) → c ≡ m.code → CanRun m → Serves m input h t r → Asks m t n a → a.op ≡ Op.Call f
-    → with_frame (frame_words c f) a.stack ≡ Some s → IsFed flat_meaning c (life_in t) t.done n (ReplyOf.Stack s) (life_in u) u.done → IsTree flat_meaning c (life_in u)
-    → IsPerformed m input h n a Answer.Unit u r
-called m input h t u r n f a s c code can serves asks op fits fed tree = record {
-  answers = subst (λ o. IsAnswer m input h n (room_in a.stack) o Answer.Unit) (sym op) (sym (calls_fit m f a.stack ∙ ap (answer_by Stop.Stack) (ap (λ k. with_frame (frame_words k f) a.stack) (sym code) ∙ fits)));
-  goes_on = λ goes. record {
-    threads = fed_on m h (life_in t) (life_in u) t.done u.done n a Answer.Unit (ReplyOf.Stack s) can.form serves.threads by kind tells no_fork
-        (subst (λ k. IsFed flat_meaning k (life_in t) t.done n (ReplyOf.Stack s) (life_in u) u.done) code fed) (subst (λ k. IsTree flat_meaning k (life_in u)) code tree);
-    store = after_other m input h r (entry_of n a Answer.Unit) (ap is_write op) (ap changes_desk op) serves.store;
-  };
-}
-  where
-    by : IsAskedBy m.code (running (life_in t n)) a
-    by = asked_by m.code (running (life_in t n)) a asks
-
-    fits_here : with_frame (frame_words m.code f) a.stack ≡ Some s
-    fits_here = ap (λ k. with_frame (frame_words k f) a.stack) (sym code) ∙ fits
-
-    kind : IsReplyTo flat_meaning m.code by.want (ReplyOf.Stack s)
-    kind =
-        let new = framed (frame_words m.code f) a.stack s fits_here in
-        let holds : nat_le (s.base + frame_words m.code f) s.top ≡ true = le_self _ _ (ap (λ b. b + frame_words m.code f) new.base ∙ sym new.top) in
-        subst (λ w. IsReplyTo flat_meaning m.code w (ReplyOf.Stack s)) (sym (calls m t n f a by op)) holds
-
-    tells : Tells m.code a.stack a.op Answer.Unit (ReplyOf.Stack s)
-    tells = subst (λ o. Tells m.code a.stack o Answer.Unit (ReplyOf.Stack s)) (sym op) fits_here
-
-    no_fork : (k : ℕ) → a.op ≡ Op.Fork k → ⊥
-    no_fork k is = let clash : Op.Call f ≡ Op.Fork k = sym op ∙ is in cc
-
-pub no_frame : (m : Module) (input : List ℤ) (h : List Entry) (u : FlatThreads) (r : Store) (n f : ℕ) (a : Asked) (c : Code) → c ≡ m.code → a.op ≡ Op.Call f → with_frame (frame_words c f) a.stack ≡ None
-    → IsPerformed m input h n a (Answer.Stop Stop.Stack) u r
-no_frame m input h u r n f a c code op fits =
-    stopped m input h u r n a (Answer.Stop Stop.Stack)
-    (subst (λ o. IsAnswer m input h n (room_in a.stack) o (Answer.Stop Stop.Stack)) (sym op) (sym (calls_fit m f a.stack ∙ ap (answer_by Stop.Stack) (ap (λ k. with_frame (frame_words k f) a.stack) (sym code) ∙ fits)))) refl
+pub no_frame : (m : Module) (input : List ℤ) (h : List Entry) (l : FlatLife) (r : Store) (n f : ℕ) (a : Asked) (c : Code) → c ≡ m.code → IsStore m input h r → a.op ≡ Op.Call f → with_frame (frame_words c f) a.stack ≡ None
+    → IsTurned m input h n l a (Answer.Stop Stop.Stack) l r
+no_frame m input h l r n f a c code store op fits =
+    turned_stop m input h l r n a (Answer.Stop Stop.Stack)
+    (subst (λ o. IsAnswer m input h n (room_in a.stack) o (Answer.Stop Stop.Stack)) (sym op) (sym (calls_fit m f a.stack ∙ ap (answer_by Stop.Stack) (ap (λ k. with_frame (frame_words k f) a.stack) (sym code) ∙ fits)))) refl store.layout
 
 -- Main's frame.
 

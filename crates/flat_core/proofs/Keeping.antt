@@ -1,5 +1,5 @@
 -- A store after an event that takes no stack and no block.
-use Rattle.std.proofs.Common.{◌≡◌, ℕ, List, [], ◌∷◌, true, false, Option, Some, None, Ok, Err, refl, sym, ◌∙◌, ap, subst}
+use Rattle.std.proofs.Common.{◌≡◌, ℕ, List, [], ◌∷◌, true, false, None, Ok, Err, refl, sym, ◌∙◌, ap, subst}
 use Rattle.dfi_base.specs.declared.numbers.DefNo.{DefNo}
 use Rattle.tac_ir.specs.declared.run.Stop.{Stop}
 use Rattle.tac_ir.specs.Desk.{item_words}

@@ -1,8 +1,8 @@
 pub mod Answering
 pub mod Keeping
 pub mod Asking
-pub mod Telling
 pub mod Performing
+pub mod Turned
 pub mod Frames
 pub mod Branches
 pub mod Ending

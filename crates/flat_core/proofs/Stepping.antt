@@ -86,6 +86,13 @@ not_runnable m input core n is over none =
           cc),
     )
 
+-- a core with the same parts is the same
+abbrev core_of : FlatThreads → Store → List Entry → Core
+core_of t s es = record { threads = t; store = s; entries = es }
+
+pub same_parts : (core : Core) (u : FlatThreads) (r : Store) (es : List Entry) → u ≡ core.threads → r ≡ core.store → es ≡ core.entries → core_of u r es ≡ core
+same_parts core u r es threads store entries = ap (λ x. core_of x r es) threads ∙ ap (λ x. core_of core.threads x es) store ∙ ap (core_of core.threads core.store) entries
+
 -- a core before its first step
 pub first_core : (m : Module) (input : List ℤ) (core : Core) → core.entries ≡ [] → Serves m input [] core.threads core.store → IsCoreOf m input core
 unfolding IsHistory

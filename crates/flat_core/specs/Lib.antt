@@ -1,5 +1,5 @@
 pub mod Store
-pub mod Told
+pub mod Turns
 pub mod Serves
 pub mod Stands
 pub mod Runs

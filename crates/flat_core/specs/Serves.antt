@@ -1,5 +1,5 @@
 -- The threads with what they share, beside the history of a run.
-use Rattle.std.specs.Prelude.{◌≡◌, ℕ, false, Some, List, ◌∷◌, ℤ}
+use Rattle.std.specs.Prelude.{◌≡◌, ℕ, false, Option, Some, None, List, ◌∷◌, ℤ}
 use Rattle.tac_ir.specs.declared.run.Answer.{Answer}
 use Rattle.tac_ir.specs.declared.run.Entry.{Entry}
 use Rattle.tac_ir.specs.Module.{Module}
@@ -38,3 +38,8 @@ pub record IsPerformed (m : Module) (input : List ℤ) (h : List Entry) (n : ℕ
 -- whatever run they serve, this is its answer to what thread n asked for, and these are the parts behind it
 abbrev pub Performs : Module → FlatThreads → Store → ℕ → Asked → Answer → FlatThreads → Store → Type 0
 Performs m t s n a answer u r = (input : List ℤ) (h : List Entry) → Serves m input h t s → IsPerformed m input h n a answer u r
+
+-- the next event of thread n was answered and done, and this is its entry; where the name is not runnable, there is none, and nothing has changed
+abbrev pub Steps : Module → FlatThreads → Store → ℕ → Option Entry → FlatThreads → Store → Type 0
+Steps m t s n None u r = (asked_of m.code (running (life_in t n)) ≡ None) × (u ≡ t) × (r ≡ s)
+Steps m t s n (Some e) u r = (a : Asked) × (answer : Answer) × Asks m t n a × (e ≡ entry_of n a answer) × Performs m t s n a answer u r

@@ -1,9 +1,10 @@
 ghost use Rattle.std.specs.Prelude.{◌≡◌};
 ghost use Rattle.path_law.specs.Asked.{op_of};
-ghost use Rattle.flat_core.specs.Told.{reply_to};
+ghost use Rattle.path_law.specs.Replies.{reply_to};
+ghost use Rattle.flat_core.specs.tools.Asked.{entry_of};
 
-use dfi_base::Point;
-use tac_ir::{Answer, Op};
+use dfi_base::{Name, Point};
+use tac_ir::{Answer, Entry, Op};
 use tac_thread::{FlatStack, FlatWords, Reply, Want};
 
 /// The next event of a runnable thread: where it stands, its op, and the stack of its thread.
@@ -12,6 +13,20 @@ pub struct Asked {
     pub point: Point,
     pub op: Op,
     pub stack: FlatStack,
+}
+
+impl Asked {
+    /// The entry of this event, by a thread of this name, with its answer.
+    pub fn entry(self, name: Name, answer: Answer) -> Entry
+        ensures { result ≡ entry_of name.0 self answer }
+    {
+        Entry {
+            name,
+            point: self.point,
+            op: self.op,
+            answer,
+        }
+    }
 }
 
 /// The op of what a thread wants.

@@ -10,6 +10,7 @@ mod machine;
 mod stacks;
 mod steps;
 mod store;
+mod turn;
 
 pub use ask::{op_of, reply_to};
 pub use drive::{Turns, run};

@@ -1,7 +1,6 @@
 ghost use Rattle.std.specs.Prelude.{◌≡◌, ◌<◌, ◌^◌, ℕ, ℤ, List, [], IfOk, Bool, true, false, length, option_map, ◌⊎◌};
 ghost use Rattle.tac_ir.specs.Path.{stops};
 ghost use Rattle.word_table.specs.Tables.{CanRun};
-ghost use Rattle.tac_ir.specs.CoreRun.{end_by};
 ghost use Rattle.tac_ir.specs.Module.{Module};
 ghost use Rattle.tac_thread.specs.Threads.{name_number};
 ghost use Rattle.flat_core.specs.Stands.{IsCore, IsCoreOf, Answers, history_of};
@@ -14,7 +13,7 @@ use dfi_base::{Memory, Name};
 use sqlite_items::Items;
 use std::alloc::Global;
 use std::marker::Model;
-use tac_ir::{Answer, End, Entry, Journal, Limit, Module, Stop};
+use tac_ir::{Answer, End, Entry, Journal, Limit, Module};
 
 /// The run of a module so far: its threads, what they share, and its entries.
 #[derive(Drop)]
@@ -55,16 +54,9 @@ impl Core {
         if self.is_over() {
             return Err(StepFault::Over);
         }
-        let Some(asked) = self.machine.asked(m, name) else {
-            return Err(StepFault::NotRunnable);
-        };
         self.entries.reserve(1)?;
-        let answer = self.machine.perform(m, name, asked)?;
-        let entry = Entry {
-            name,
-            point: asked.point,
-            op: asked.op,
-            answer,
+        let Some(entry) = self.machine.step(m, name)? else {
+            return Err(StepFault::NotRunnable);
         };
         match self.entries.push(entry) {
             Ok(()) => Ok(entry),
@@ -107,7 +99,7 @@ impl Core {
     {
         if let Some(entry) = self.entries.last() {
             if let Answer::Stop(stop) = entry.answer {
-                return end_by(stop);
+                return stop.end();
             }
         }
         match self.machine.tree.done() {
@@ -125,20 +117,6 @@ impl Core {
             Some(entry) if is_stop(entry.answer) => true,
             _ => self.machine.tree.done().is_some(),
         }
-    }
-}
-
-// The end of a run by its stop.
-fn end_by(stop: Stop) -> End
-    ensures { result ≡ end_by stop }
-{
-    match stop {
-        Stop::Alarm { .. } => End::Alarm,
-        Stop::Divide | Stop::Address | Stop::Free => End::Trap,
-        Stop::Stack => End::Limit(Limit::Stack),
-        Stop::Heap => End::Limit(Limit::Heap),
-        Stop::Depth => End::Limit(Limit::Depth),
-        Stop::Share => End::Limit(Limit::Share),
     }
 }
 

@@ -20,9 +20,10 @@ use Rattle.c_typed.specs.Faults.{Rule, Fault, unknown, mismatch, not_lvalue}
 use Rattle.c_typed.specs.Parts.{Place, Part, tokens, given, joined, obeys, refused, ◌⊗◌, ◌<⊗◌, ◌⊗>◌}
 use Rattle.c_typed.specs.Tags.{base, type_name, known_tag}
 use Rattle.c_typed.specs.Exprs
+use Rattle.c_typed.specs.Stmts.{call_by, call_stmt}
 use Rattle.c_typed.specs.Exprs.{Layer, made, Size, Reading, value, place, unary, product, counted_by, many_of, one_of, field_of, fielded, in_struct, found_by, field_by, name, name_as, arguments, called, call, call_as, allocation, allocation_by, form_step, expr}
 use Rattle.line_law.proofs.Lined.{IsLined, none, one, wider, apart}
-use Rattle.line_law.proofs.Parts.{none_some, IsClean, IsBounded, loose, clean_inside, clean_tokens, clean_given, clean_joined, bounded_first, bounded_second, bounded_tokens, bounded_map, bounded_obeys, bounded_refused, IsBehind, behind_tokens, behind_first}
+use Rattle.line_law.proofs.Parts.{none_some, IsInside, IsClean, IsBounded, loose, clean_inside, clean_tokens, clean_given, clean_joined, bounded_first, bounded_second, bounded_tokens, bounded_map, bounded_obeys, bounded_refused, IsBehind, behind_tokens, behind_first}
 use Rattle.c_typed.proofs.Levels.{mapped_form, read_form, form_roll, expr_reads}
 
 -- Type names.
@@ -191,8 +192,8 @@ call_is w line f rs (Meaning.function k s) all =
     ]
 call_is w line f rs (Meaning.builtin Builtin.getint) all = record { bounded = bounded_obeys mismatch line _ _ (with_arguments rs all); as_long = refl }
 call_is w line f rs (Meaning.builtin Builtin.left) all = record { bounded = bounded_obeys mismatch line _ _ (with_arguments rs all); as_long = refl }
-call_is w line f rs (Meaning.builtin Builtin.putint) all = record { bounded = bounded_obeys mismatch line _ _ (with_arguments rs all); as_long = refl }
-call_is w line f rs (Meaning.builtin Builtin.free) all = record { bounded = bounded_obeys mismatch line _ _ (with_arguments rs all); as_long = refl }
+call_is w line f rs (Meaning.builtin Builtin.putint) all = record { bounded = bounded_map _ _ (bounded_obeys mismatch line (λ h es. Exprs.put es) _ (with_arguments rs all)); as_long = refl }
+call_is w line f rs (Meaning.builtin Builtin.free) all = record { bounded = bounded_map _ _ (bounded_obeys mismatch line (λ h es. Exprs.freed es) _ (with_arguments rs all)); as_long = refl }
 call_is w line f rs (Meaning.builtin Builtin.malloc) all = allocation_is line rs all
 
 bounded_call : (w : Whole) (line : Line) (f : Ident) (rs : List Reading) → AllRead rs → IsBounded (call w line f rs)
@@ -253,3 +254,26 @@ pub bounded : (w : Whole) (e : SourceExpr) → IsRead (expr w e)
 bounded w = ind-Expr (FormRead w) (ExprRead w)
     (λ x y is line. subst (λ r. IsRead r) (sym (form_roll w line x)) (subst (λ x. IsRead (form_step w (mapped_form w x) line)) is (level_read w line y)))
     (λ x y is. subst (λ x. IsRead (expr w (record { line = x.line; form = x.form }))) is (subst (λ r. IsRead r) (sym (expr_reads w y.line y.form.0)) (y.form.1 y.line)))
+
+-- A call that is a statement.
+unused_within : (w : Whole) (f : Ident) (rs : List Reading) (m : Meaning) → AllRead rs → (here : Place) → IsLined here.at (here.at + (called (arguments rs)).tokens) ((call_as w f.line f rs m).judge here).faults
+unused_within w f rs m all here =
+    let is = call_is w f.line f rs m all in
+    subst (λ n. IsLined here.at (here.at + n) ((call_as w f.line f rs m).judge here).faults) is.as_long (is.bounded.within here)
+
+call_by_within : (w : Whole) (f : Ident) (rs : List Reading) (m : Meaning) → AllRead rs → (here : Place) → IsLined here.at (here.at + (called (arguments rs)).tokens) ((call_by w f rs m).judge here).faults
+call_by_within w f rs (Meaning.object v) all here = unused_within w f rs (Meaning.object v) all here
+call_by_within w f rs Meaning.nothing all here = unused_within w f rs Meaning.nothing all here
+call_by_within w f rs (Meaning.function k s) all here = unused_within w f rs (Meaning.function k s) all here
+call_by_within w f rs (Meaning.builtin Builtin.getint) all here = unused_within w f rs (Meaning.builtin Builtin.getint) all here
+call_by_within w f rs (Meaning.builtin Builtin.left) all here = unused_within w f rs (Meaning.builtin Builtin.left) all here
+call_by_within w f rs (Meaning.builtin Builtin.putint) all here = (bounded_obeys mismatch f.line (λ h es. Exprs.put es) _ (with_arguments rs all)).within here
+call_by_within w f rs (Meaning.builtin Builtin.free) all here = (bounded_obeys mismatch f.line (λ h es. Exprs.freed es) _ (with_arguments rs all)).within here
+call_by_within w f rs (Meaning.builtin Builtin.malloc) all here = unused_within w f rs (Meaning.builtin Builtin.malloc) all here
+
+all_bounded : (w : Whole) (es : List SourceExpr) → AllRead (map (expr w) es)
+all_bounded w [] = tt
+all_bounded w (e ∷ es) = (bounded w e, all_bounded w es)
+
+pub inside_call_stmt : (w : Whole) (f : Ident) (es : List SourceExpr) → IsInside (call_stmt w f (map (expr w) es))
+inside_call_stmt w f es = record { within = λ here. call_by_within w f (map (expr w) es) (meaning w here.before f.name) (all_bounded w es) here }

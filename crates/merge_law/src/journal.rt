@@ -1,5 +1,4 @@
 ghost use Rattle.std.specs.Prelude.{◌≡◌, ◌≤◌, length, IfOk};
-ghost use Rattle.tac_ir.specs.CoreRun.{end_by};
 ghost use Rattle.tac_ir.specs.Threads.{root_start};
 ghost use Rattle.guest_log.specs.Shared.{Shared, history_of};
 ghost use Rattle.merge_law.specs.Logs.{IsLogOf};
@@ -12,7 +11,7 @@ use dfi_base::Memory;
 use guest_log::{Log, Stamped};
 use sqlite_items::Items;
 use std::alloc::Global;
-use tac_ir::{Answer, End, Journal, Limit, Module, Stop};
+use tac_ir::{Answer, End, Journal, Limit, Module};
 
 /// The core run that the log of thread 1 is: its entries up to and with the first that stops the run.
 pub fn journal_of(
@@ -30,10 +29,11 @@ pub fn journal_of(
     ensures journal { IfOk result (λ j. j ≡ at_rest.journal_of rest (history_of log.now.items)) }
     ensures run { IfOk result (λ j. IsWholeRun m.now input.now budget j) }
 {
-    journal(alloc, log.items(), rest)
+    journal_at_rest(alloc, log.items(), rest)
 }
 
-fn journal(alloc: Global, log: &[Stamped], rest: Rest) -> Result<Journal, Memory>
+/// The journal of any list of entries that came to rest so, whether a run made it or not.
+pub fn journal_at_rest(alloc: Global, log: &[Stamped], rest: Rest) -> Result<Journal, Memory>
     ensures { IfOk result (λ j. j ≡ at_rest.journal_of rest (history_of log.now)) }
 {
     let mut entries = Vec::new(alloc);
@@ -42,7 +42,7 @@ fn journal(alloc: Global, log: &[Stamped], rest: Rest) -> Result<Journal, Memory
         if let Answer::Stop(stop) = stamped.entry.answer {
             return Ok(Journal {
                 entries: Items::from_vec(entries),
-                end: end_by(stop),
+                end: stop.end(),
             });
         }
     }
@@ -59,19 +59,5 @@ fn end_at_rest(rest: Rest) -> End
     match rest {
         Rest::Returned(value) => End::Done(value),
         Rest::Stopped | Rest::LeftOff => End::Limit(Limit::Budget),
-    }
-}
-
-// The end of a run by its stop.
-fn end_by(stop: Stop) -> End
-    ensures { result ≡ end_by stop }
-{
-    match stop {
-        Stop::Alarm { .. } => End::Alarm,
-        Stop::Divide | Stop::Address | Stop::Free => End::Trap,
-        Stop::Stack => End::Limit(Limit::Stack),
-        Stop::Heap => End::Limit(Limit::Heap),
-        Stop::Depth => End::Limit(Limit::Depth),
-        Stop::Share => End::Limit(Limit::Share),
     }
 }

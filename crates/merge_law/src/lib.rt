@@ -5,6 +5,6 @@ mod journal;
 mod law;
 mod rest;
 
-pub use journal::journal_of;
+pub use journal::{journal_at_rest, journal_of};
 pub use law::{guests_keep_their_logs, logs_are_one_run, runs_are_logs};
 pub use rest::Rest;

@@ -1,6 +1,5 @@
-pub mod Basics
-pub mod Instructions
-pub mod Parts
-pub mod Keys
-pub mod Orders
-pub mod Whole
+pub mod Seen
+pub mod Joining
+pub mod Telling
+pub mod Marked
+pub mod Ended

@@ -1,5 +1,1 @@
-pub mod ModuleText
-pub mod IsModule
-pub mod IsText
-pub mod Laws
-pub mod tools
+pub mod Reading

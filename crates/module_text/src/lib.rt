@@ -1,7 +1,15 @@
 //! The text of a module, in both directions.
 #![tactic(auto)]
 
-mod law;
-mod opcode;
+mod fault;
+mod modules;
+mod reading;
+mod rows;
+mod tables;
+mod words;
+mod writing;
+mod written;
 
-pub use law::{texts_are_one, texts_are_read_back, texts_are_told};
+pub use fault::{TextFault, WriteFault};
+pub use reading::read_module;
+pub use writing::write_module;

@@ -1,29 +1,27 @@
 -- Lives begin where their paths begin.
 use Rattle.std.proofs.Common.{◌≡◌, ℕ, suc, ◌+◌, ◌-◌, ◌*◌, ◌/◌, ◌≤◌, List, [], length, Bool, true, false, refl, Some, None, arith, sym, ◌∙◌, ap, subst}
-use Rattle.std.specs.Prelude.{nat_eq, not, slice_index, if◌then◌else◌}
+use Rattle.std.specs.Prelude.{nat_eq, slice_index, if◌then◌else◌}
 use Rattle.dfi_base.specs.declared.numbers.Point.{Point}
 use Rattle.tac_ir.specs.declared.code.Code.{Code}
-use Rattle.tac_ir.specs.declared.code.Instr.{Instr}
 use Rattle.tac_ir.specs.declared.run.Entry.{Entry}
 use Rattle.tac_ir.specs.Module.{Module}
 use Rattle.tac_ir.specs.Counts.{temps_of}
-use Rattle.tac_ir.specs.Effect.{Spot, divides}
-use Rattle.tac_ir.specs.Words.{bin_of}
+use Rattle.tac_ir.specs.Effect.{Spot}
 use Rattle.tac_ir.specs.Layout.{instr_at}
 use Rattle.tac_ir.specs.Path.{Step, Start, calls_in, call_of, frame_end, base_of, temp_of, next_spot, IsPath}
 use Rattle.tac_ir.specs.Threads.{root_start, room_at, share_start, IsForkedAt}
 use Rattle.tac_thread.specs.declared.flat.FlatStack.{FlatStack}
 use Rattle.tac_thread.specs.declared.guest.Stage.{Stage}
 use Rattle.tac_thread.specs.declared.want.Want.{Want}
-use Rattle.tac_thread.specs.Life.{instr_of, temp}
-use Rattle.tac_thread.specs.Doing.{doing, asked, tested, link_write, want_at, want_of}
+use Rattle.tac_thread.specs.Life.{instr_of}
+use Rattle.tac_thread.specs.Doing.{link_write, want_at, want_of}
 use Rattle.tac_thread.specs.Begun.{begun, root_of, entry_of, branch_of}
 use Rattle.tac_thread.specs.Flat.{flat_meaning, with_share}
-use Rattle.path_law.specs.Standing.{FlatActivation, FlatLife, first_spot, AreCallers, IsBefore, StandsIn, IsAt}
+use Rattle.path_law.specs.Standing.{FlatLife, first_spot, AreCallers, IsBefore, StandsIn, IsAt}
 use Rattle.path_law.specs.Begins.{root_stack, IsBranchAt}
-use Rattle.path_law.proofs.Table.{divided_by}
 use Rattle.path_law.proofs.Temps.{zeros, value_index}
 use Rattle.path_law.proofs.Calls.{given_size}
+use Rattle.tree_law.proofs.trees.Waking.{IsFork, fork_is}
 
 -- a stack that is the frame and the region of a beginning
 pub record IsStartOf (s : Start) (f at : ℕ) (stack : FlatStack) : Type 0 where
@@ -66,31 +64,6 @@ root_at m = begun_at m.code (root_start m) m.code.main 0 (root_stack m) (record 
 
 -- Branches.
 
--- the parts of a fork of n branches
-pub record IsFork (i : Instr) (n : ℕ) : Type 0 where
-  pub join : ℕ
-  pub entries : List ℕ
-  pub is : i ≡ Instr.Fork join entries
-  pub count : length entries ≡ n
-
-pub fork_is : (c : Code) (x : FlatActivation) (n : ℕ) (i : Instr) → asked (doing flat_meaning c x i) ≡ Some (Want.Fork n) → IsFork i n
-fork_is c x n (Instr.Fork join entries) want = record { join = join; entries = entries; is = refl; count = cc }
-fork_is c x n (Instr.Bin to bin a b) want = by (divides bin) (nat_eq (temp flat_meaning x b) 0) want
-  where
-    by : (d z : Bool) → asked (divided_by d z to (bin_of bin (temp flat_meaning x a) (temp flat_meaning x b))) ≡ Some (Want.Fork n) → IsFork (Instr.Bin to bin a b) n
-    by true true want = cc
-    by true false want = cc
-    by false true want = cc
-    by false false want = cc
-fork_is c x n (Instr.Test a at_other at_zero) want = by (nat_eq (temp flat_meaning x a) 0) want
-  where
-    by : (z : Bool) → asked (tested {V = ℕ} at_other at_zero (Some (not z))) ≡ Some (Want.Fork n) → IsFork (Instr.Test a at_other at_zero) n
-    by true want = cc
-    by false want = cc
-fork_is c x n (Instr.Ret a (Some r)) want = cc
-fork_is c x n (Instr.Ret a None) want = cc
-fork_is c x n i want = cc
-
 -- a life that wants to fork stands before a fork
 pub record IsForking (c : Code) (s : Start) (own : List Entry) (l : FlatLife) (n : ℕ) : Type 0 where
   pub steps : List Step
@@ -102,7 +75,7 @@ pub forking : (c : Code) (s : Start) (own : List Entry) (l : FlatLife) (n : ℕ)
 forking c s own l n now want = by l.stage now.stands.spot want
   where
     by : (stage : Stage ℕ FlatStack) → StandsIn c s now.steps l stage → want_at flat_meaning c l.top stage ≡ Some (Want.Fork n) → IsForking c s own l n
-    by Stage.Ready b want = record { steps = now.steps; path = now.path; before = b; fork = fork_is c l.top n (instr_of c l.top) want }
+    by Stage.Ready b want = record { steps = now.steps; path = now.path; before = b; fork = fork_is flat_meaning c l.top n (instr_of c l.top) want }
     by (Stage.Entering z) b want =
         let pushes : Some (Want.Push (record { 0 = b.def }) z.stack.base) ≡ Some (Want.Fork n) = ap (λ i. link_write i (Some z.stack.base)) (sym b.call) ∙ want in cc
     by (Stage.Leaving link) b want = cc

@@ -25,34 +25,29 @@ use Rattle.tac_thread.specs.Threads.{HasBranch, at_fork, AreBranches}
 use Rattle.tac_thread.specs.Flat.{flat_meaning}
 use Rattle.tac_thread.proofs.Trees.{running_is}
 use Rattle.tac_thread.proofs.Forking.{few_branches, runs_alone}
-use Rattle.path_law.specs.Asked.{op_of}
 use Rattle.path_law.specs.Standing.{FlatLife, StandsIn, IsAt}
 use Rattle.path_law.specs.Alive.{AreAlive, IsNextTold, AreShares}
 use Rattle.path_law.specs.InPlace.{FlatLives, IsInPlace, AreInPlace}
 use Rattle.path_law.proofs.Laws
 use Rattle.path_law.proofs.Replies.{unit_told}
-use Rattle.path_law.proofs.Begins.{fork_is}
-use Rattle.path_law.proofs.Awake.{runs_awake}
+use Rattle.tree_law.proofs.trees.Waking.{fork_is}
+use Rattle.tree_law.proofs.trees.Waking.{runs_awake}
 use Rattle.path_law.proofs.Placed.{AreLiving, no_zero}
 use Rattle.path_law.proofs.Settled.{IsChanged, here_is, other_is}
 use Rattle.path_law.proofs.Planted.{kept, planted_other, planted_branch}
 use Rattle.path_law.proofs.Forked.{IsSprout, resumed}
+use Rattle.path_law.proofs.Telling.{wants_fork}
 
 -- a thread that is told that it has forked waits
 waits_at_fork : (c : Code) (s : Start) (mine : List Entry) (l : FlatLife) (n : ℕ) → IsAt c s mine l → want_of flat_meaning c l ≡ Some (Want.Fork n) → answered flat_meaning c l ReplyOf.Unit ≡ at_fork l
 waits_at_fork c s mine l n now want = by l.stage now.stands.spot want
   where
     by : (stage : Stage ℕ FlatStack) → StandsIn c s now.steps l stage → want_at flat_meaning c l.top stage ≡ Some (Want.Fork n) → answered_at flat_meaning c l stage ReplyOf.Unit ≡ at_fork l
-    by Stage.Ready b want = let fork = fork_is c l.top n (instr_of c l.top) want in ap (λ i. answered_first flat_meaning c l i ReplyOf.Unit) fork.is
+    by Stage.Ready b want = let fork = fork_is flat_meaning c l.top n (instr_of c l.top) want in ap (λ i. answered_first flat_meaning c l i ReplyOf.Unit) fork.is
     by (Stage.Entering z) b want =
         let pushes : Some (Want.Push (record { 0 = b.def }) z.stack.base) ≡ Some (Want.Fork n) = ap (λ i. link_write i (Some z.stack.base)) (sym b.call) ∙ want in cc
     by (Stage.Leaving link) b want = cc
     by Stage.Waiting b want = cc
-
--- who has the op of a fork wants to fork
-wants_fork : (w : Want ℕ) (n : ℕ) → op_of w ≡ Some (Op.Fork n) → w ≡ Want.Fork n
-wants_fork (Want.Fork k) n is = let same : k ≡ n = cc in ap Want.Fork same
-wants_fork w n is = cc
 
 -- the answer of a fork
 fork_count : (op : Op) (answer : Answer) (n : ℕ) → Some (Op.Fork n) ≡ Some op → answer ≡ Answer.Unit → forked_by op answer ≡ n
@@ -84,7 +79,7 @@ sprout m h f g life n i stacks branches p want shares begin changes alone some f
     record {
       life = b;
       stands = Laws.branches c p.start (own (threads_of m) n h) life b (length stacks) (suc i) t p.stands want (omega arith) (shares i t at_stack) ran;
-      awake = runs_awake c (branch_of flat_meaning c life (suc i) t) b ran refl;
+      awake = runs_awake flat_meaning c (branch_of flat_meaning c life (suc i) t) b refl ran;
       lives = other_is (Threads.planted flat_meaning c f n 1 branches) g n (Some (at_fork life)) changes (16 * n + suc i) (λ e. omega (arith, e, some))
           ∙ ap (Threads.planted flat_meaning c f n 1 branches) spot ∙ planted_branch c branches f n 1 i b at_branch
           ∙ ap (kept c b) (no_branch f n (1 + i) alone (omega arith) (omega (arith, within, few)));

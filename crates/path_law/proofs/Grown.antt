@@ -1,7 +1,7 @@
 -- A tree that begins, and one whose thread takes an answer, are in place.
 use Rattle.std.proofs.Common.{◌≡◌, ℕ, ◌+◌, ◌*◌, ◌/◌, ◌≤◌, List, [], ◌∷◌, Bool, true, false, refl, Option, Some, None, arith, sym, ◌∙◌, ap, subst, ⊎_elim}
 use Rattle.std.proofs.lemmas.Bool.{cases_eq}
-use Rattle.dfi_base.specs.Lives.{BeginsIn, own, Begins, branches_after, Ended}
+use Rattle.dfi_base.specs.Lives.{BeginsIn, own, branches_after, Ended}
 use Rattle.tac_ir.specs.declared.run.Op.{Op}
 use Rattle.tac_ir.specs.declared.run.Answer.{Answer}
 use Rattle.tac_ir.specs.declared.run.Entry.{Entry}
@@ -23,7 +23,7 @@ use Rattle.path_law.specs.Begins.{root_stack}
 use Rattle.path_law.specs.Alive.{AreAlive, IsNextTold}
 use Rattle.path_law.specs.InPlace.{FlatLives, started, IsInPlace, BranchesAre, AreSettled, AreInPlace}
 use Rattle.path_law.proofs.Laws
-use Rattle.path_law.proofs.Awake.{runs_awake, answered_awake}
+use Rattle.tree_law.proofs.trees.Waking.{runs_awake, answered_awake}
 use Rattle.path_law.proofs.Histories.{Starts, not_started, own_mine, own_other, begins_same, begun_same, ended_same}
 use Rattle.path_law.proofs.Placed.{AreLiving, alive_not_ended}
 use Rattle.path_law.proofs.Main.{main_lives, main_on, main_more, settled_main}
@@ -34,7 +34,7 @@ use Rattle.path_law.proofs.Settled.{IsChanged, here_is, other_is, by_name, still
 begun_threads : (m : Module) (root : FlatLife) (f : FlatLives) → RunsOn flat_meaning m.code (root_of flat_meaning m.code (root_stack m)) root → IsChanged nobody 1 (Some root) f → AreSettled m [] f
 unfolding BeginsIn own
 begun_threads m root f ran changes =
-    let awake = runs_awake m.code (root_of flat_meaning m.code (root_stack m)) root ran refl in
+    let awake = runs_awake flat_meaning m.code (root_of flat_meaning m.code (root_stack m)) root refl ran in
     let nobody_else : (P : ℕ → FlatLife → Type 0) → P 1 root → (k : ℕ) (l : FlatLife) → f k ≡ Some l → P k l =
     λ P here. by_name nobody f 1 root P changes here (λ k l other there. (let clash : None ≡ Some l = there in absurd (none_is l clash))) in
     record {
@@ -156,8 +156,8 @@ tree_fed m h f g d b e reply good tree now none fed =
     let not_fork : (k : ℕ) → now.told.want ≡ Want.Fork k → ⊥ = λ k is. none k (let both : Some e.op ≡ Some (Op.Fork k) = sym now.told.event ∙ ap op_of is in cc) in
     let plain : IsPlain m h e = record { forks = no_fork now.told.want e.op e.answer now.told.event not_fork; lived = alive_not_ended m h f alive n life lives } in
     let mine = own_mine m e h n refl in
-    let awake = runs_awake c (answered flat_meaning c life reply) fed.next ran (answered_awake c life reply
-    (λ k want. not_fork k (let both : Some now.told.want ≡ Some (Want.Fork k) = sym now.told.wants ∙ want in cc)) found.1) in
+    let awake = runs_awake flat_meaning c (answered flat_meaning c life reply) fed.next (answered_awake flat_meaning c life reply
+    (λ k want. not_fork k (let both : Some now.told.want ≡ Some (Want.Fork k) = sym now.told.wants ∙ want in cc)) found.1) ran in
     let stepped = gone_threads m h f fed.lives e n fed.next alive.place (record {
       name = refl;
       plain = plain;

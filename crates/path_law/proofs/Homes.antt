@@ -7,11 +7,12 @@ use Rattle.tac_ir.specs.declared.code.Fun.{Fun}
 use Rattle.tac_ir.specs.declared.code.Instr.{Instr}
 use Rattle.tac_ir.specs.declared.code.Lined.{Lined}
 use Rattle.tac_ir.specs.Layout.{lines_of}
-use Rattle.tac_ir.specs.GoodForm.{GoodForm, NamesExist, IsGoodCall, IsGoodCode, IsLastKind, all_targets_of}
+use Rattle.tac_ir.specs.GoodForm.{GoodForm, NamesExist, IsGoodCall, IsLastKind, all_targets_of}
 use Rattle.tac_thread.specs.tools.Fetched.{instr_in}
 use Rattle.tac_ir.proofs.regions.Counted.{IsOutside}
 use Rattle.tac_ir.proofs.regions.Inside.{end_inside}
 use Rattle.tac_ir.proofs.regions.Outside.{start_outside, next_outside, target_outside}
+use Rattle.tree_law.proofs.lives.Lines.{good_code}
 
 -- an instruction of function f that stands in no branch
 pub record IsHome (c : Code) (f at : ℕ) : Type 0 where
@@ -35,13 +36,6 @@ passed_not_last (Instr.Ret x r) passed last = cc
 passed_not_last (Instr.Jump t) passed last = cc
 passed_not_last Instr.End passed last = cc
 passed_not_last i passed last = absurd last
-
-good_code : (c : Code) → GoodForm c → (f at : ℕ) (l : Lined) → slice_get (lines_of c f) at ≡ Some l → IsGoodCode c f (lines_of c f)
-good_code c good f at l found = by (slice_get c.funs f) refl found
-  where
-    by : (o : Option Fun) → slice_get c.funs f ≡ o → slice_get (elim o [ None ↦ [] | Some fun ↦ fun.code ]) at ≡ Some l → IsGoodCode c f (elim o [ None ↦ [] | Some fun ↦ fun.code ])
-    by None is found = cc
-    by (Some fun) is found = good.code f fun is
 
 line_at : (code : List Lined) (at : ℕ) (l : Lined) → at < length code → (m : Lined) × (slice_get code at ≡ Some m)
 line_at code at l within = (get_or code at l, slice_get-get_or code at l within)

@@ -14,7 +14,6 @@ pub mod Begins
 pub mod Joins
 pub mod Laws
 pub mod Histories
-pub mod Awake
 pub mod Placed
 pub mod Settled
 pub mod Main
@@ -27,3 +26,4 @@ pub mod Fitting
 pub mod Stopped
 pub mod Homes
 pub mod MainPath
+pub mod Telling

@@ -19,7 +19,7 @@ use Rattle.path_law.specs.InPlace.{FlatLives, started, IsInPlace, BranchesAre, A
 use Rattle.path_law.proofs.Laws
 use Rattle.path_law.proofs.Wants.{ends}
 use Rattle.path_law.proofs.Joins.{joined_at_path}
-use Rattle.path_law.proofs.Awake.{runs_awake}
+use Rattle.tree_law.proofs.trees.Waking.{runs_awake}
 use Rattle.path_law.proofs.Placed.{no_zero}
 
 -- a thread that has ended
@@ -140,7 +140,7 @@ is_on m h g n q threads on =
     let mine = own (threads_of m) n h in
     record {
       place = record { start = p.start; begins = p.begins; stands = Laws.joins c p.start mine on.life q p.stands want on.runs };
-      awake = runs_awake c (joined c on.life) q on.runs (joined_at_path c p.start mine on.life p.stands want).awake;
+      awake = runs_awake flat_meaning c (joined c on.life) q (joined_at_path c p.start mine on.life p.stands want).awake on.runs;
     }
 
 -- by name

@@ -4,18 +4,15 @@ use Rattle.dfi_base.specs.Lives
 use Rattle.dfi_base.specs.Lives.{own, Begins, Ended}
 use Rattle.tac_ir.specs.declared.run.Entry.{Entry}
 use Rattle.tac_ir.specs.Module.{Module}
-use Rattle.tac_ir.specs.declared.code.Instr.{Instr}
 use Rattle.tac_ir.specs.GoodForm.{GoodForm}
 use Rattle.tac_ir.specs.Words.{int_of}
-use Rattle.tac_ir.specs.Layout.{instr_at}
-use Rattle.tac_ir.specs.Path.{next_spot, temp_of}
 use Rattle.tac_ir.specs.CoreRun.{Returns}
 use Rattle.tac_ir.specs.Threads.{root_start, threads_of}
 use Rattle.tac_thread.specs.Threads.{is_waiting, running, main_value, IsRunnable}
 use Rattle.tac_thread.specs.Flat.{flat_meaning}
 use Rattle.tac_thread.proofs.Trees.{running_is}
 use Rattle.path_law.specs.Standing.{FlatLife}
-use Rattle.path_law.specs.Wants.{next_of, ended_with, EndsWith}
+use Rattle.path_law.specs.Wants.{next_of, EndsWith}
 use Rattle.path_law.specs.InPlace.{FlatLives}
 use Rattle.path_law.specs.Runs.{Runs}
 use Rattle.path_law.specs.Alive.{AreAlive}

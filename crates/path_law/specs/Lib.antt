@@ -8,3 +8,4 @@ pub mod Runs
 pub mod Alive
 pub mod Returned
 pub mod Fits
+pub mod Replies

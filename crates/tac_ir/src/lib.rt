@@ -11,5 +11,7 @@ pub use law::{
     good_modules_run, leaves_of_numbers, memory_is_local, nodes_of_code, numbers_of_code, one_run,
     regions_of_forks, what_a_run_keeps,
 };
-pub use module::{Classes, Fact, Facts, Key, Module, Points, PointsRow, ReachRow, Sets, Size};
+pub use module::{
+    Classes, Fact, Facts, Key, Module, Points, PointsRow, Reach, ReachRow, Sets, Size,
+};
 pub use run::{Answer, End, Entry, Journal, Limit, Op, Stop};

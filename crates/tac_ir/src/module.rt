@@ -2,10 +2,10 @@ ghost use Rattle.std.specs.Prelude.{◌≡◌};
 ghost use Rattle.tac_ir.specs.Layout.{stack_from, memory_words};
 
 use crate::code::Code;
-use dfi_base::Point;
 use dfi_base::memory_map::{
     LARGE_MEMORY_WORDS, LARGE_STACK_FROM, SMALL_MEMORY_WORDS, SMALL_STACK_FROM,
 };
+use dfi_base::{Bits, Point};
 use sqlite_items::Items;
 use std::marker::Model;
 
@@ -81,6 +81,13 @@ pub struct Fact {
 #[derive(Drop)]
 pub struct Facts {
     pub pairs: Items<Fact>,
+}
+
+/// The facts of code, and for each point, in the order of the code, a row as long as they are: those that reach it.
+#[derive(Drop)]
+pub struct Reach {
+    pub facts: Facts,
+    pub rows: Items<Bits>,
 }
 
 /// The facts that reach a point, ascending.

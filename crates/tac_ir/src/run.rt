@@ -32,6 +32,25 @@ pub enum Stop {
     Share,
 }
 
+impl Stop {
+    ghost use Rattle.std.specs.Prelude.{◌≡◌};
+    ghost use Rattle.tac_ir.specs.CoreRun.{end_by};
+
+    /// The end of a run that this stops.
+    pub fn end(self) -> End
+        ensures { result ≡ end_by self }
+    {
+        match self {
+            Stop::Alarm { .. } => End::Alarm,
+            Stop::Divide | Stop::Address | Stop::Free => End::Trap,
+            Stop::Stack => End::Limit(Limit::Stack),
+            Stop::Heap => End::Limit(Limit::Heap),
+            Stop::Depth => End::Limit(Limit::Depth),
+            Stop::Share => End::Limit(Limit::Share),
+        }
+    }
+}
+
 /// What a step was answered.
 #[derive(Clone, Copy, Debug, PartialEq, Eq)]
 pub enum Answer {

@@ -162,13 +162,9 @@ module _ (w : World) (b : Bool) (outs : Ends → ℕ → Type 0) (c : Context) (
   level_holds s (Form-F.Call k es) line t l all = call_of line k es s l all
   level_holds s Form-F.GetInt line t l all = in_holds w b Outs line
   level_holds s Form-F.Left line t l all = left_holds w b Outs line
-  level_holds s (Form-F.PutInt e) line t l all =
-      holds_then w b outs (value line (expr sizes e)) (λ a. quiet line (λ at. Instr.Out a)) (value_holds line e all.0) (λ a. out_holds w b Outs line a) (λ a. refl)
-  level_holds s (Form-F.Free e) line t l all =
-      holds_then w b outs (value line (expr sizes e)) (λ a. quiet line (λ at. Instr.Free a)) (value_holds line e all.0) (λ a. free_holds w b Outs line a) (λ a. refl)
-  level_holds s (Form-F.New item None) line t l all =
+  level_holds s (Form-F.New site item None) line t l all =
       holds_then w b outs (constant line (pos 1)) (λ a. new line item a) (constant_holds w b Outs line (pos 1)) (λ a. new_holds w b Outs line item a (item_object s item t l.1)) (λ a. refl)
-  level_holds s (Form-F.New item (Some e)) line t l all =
+  level_holds s (Form-F.New site item (Some e)) line t l all =
       holds_then w b outs (value line (expr sizes e)) (λ a. new line item a) (value_holds line e all.0) (λ a. new_holds w b Outs line item a (item_object s item t l.1)) (λ a. refl)
 
   mutual

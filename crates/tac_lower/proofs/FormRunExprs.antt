@@ -143,13 +143,9 @@ level_steps sizes (Form-F.Call f es) line all =
     (λ k temps h up. call_steps k line f temps up)
 level_steps sizes Form-F.GetInt line all = in_steps 0 line
 level_steps sizes Form-F.Left line all = left_steps 0 line
-level_steps sizes (Form-F.PutInt e) line all =
-    steps_then 0 (value line (expr sizes e)) (λ a. quiet line (λ at. Instr.Out a)) (value_steps 0 line (expr sizes e) all.0) (λ m a h up. out_steps m line a up)
-level_steps sizes (Form-F.Free e) line all =
-    steps_then 0 (value line (expr sizes e)) (λ a. quiet line (λ at. Instr.Free a)) (value_steps 0 line (expr sizes e) all.0) (λ m a h up. free_steps m line a up)
-level_steps sizes (Form-F.New item None) line all =
+level_steps sizes (Form-F.New site item None) line all =
     steps_then 0 (constant line (pos 1)) (λ a. new line item a) (constant_steps 0 line (pos 1)) (λ m a h up. new_steps m line item a up)
-level_steps sizes (Form-F.New item (Some e)) line all =
+level_steps sizes (Form-F.New site item (Some e)) line all =
     steps_then 0 (value line (expr sizes e)) (λ a. new line item a) (value_steps 0 line (expr sizes e) all.0) (λ m a h up. new_steps m line item a up)
 
 mutual

@@ -10,12 +10,13 @@ use Rattle.c_typed.specs.declared.stmt.Stmt.{Stmt, out-Stmt, roll-out-Stmt, map-
 use Rattle.c_typed.specs.declared.stmt.Stmt.TheOpen.{Stmt-F}
 use Rattle.c_typed.specs.IsWell.{Context, Round, IsCondition, IsConditionThere, IsReturned, IsStmtLayer, Placed, placed, in_branches, in_branch_of, stmts_of, IsStmt, AreStmts, known, none, each}
 use Rattle.tac_lower.specs.Parts.{Part, from_here, within, in_turn, ◌▷◌, ◌⨟◌}
-use Rattle.tac_lower.specs.Instrs.{constant, get, load, set, store, test, skip, jump}
+use Rattle.tac_ir.specs.declared.code.Instr.{Instr}
+use Rattle.tac_lower.specs.Instrs.{quiet, constant, get, load, set, store, test, skip, jump}
 use Rattle.tac_lower.specs.Values.{Yield, Lowered, expr, value, truth, carried}
 use Rattle.tac_lower.specs.Stmts.{Around, assigned, updated, update, compound, is_plain, assignment_by, scalar_at, returned, return, condition, guard, choice, turn, while, for, stop, ended, fork, branches, stmt_step, stmt}
 use Rattle.tac_lower.proofs.Levels.{stmt_roll}
 use Rattle.tac_lower.proofs.FormRuns.{Steps, steady_more, steps_then, steps_next, steady_given, steady_from_here, steady_within, AllSteps, steps_in_turn}
-use Rattle.tac_lower.proofs.FormRunInstrs.{constant_steps, get_steps, load_steps, set_steps, store_steps, test_steps, skip_steps, jump_steps, last_return_steps, linked_return_steps, turn_steps, end_steps, fork_steps, leaving_steps}
+use Rattle.tac_lower.proofs.FormRunInstrs.{out_steps, free_steps, constant_steps, get_steps, load_steps, set_steps, store_steps, test_steps, skip_steps, jump_steps, last_return_steps, linked_return_steps, turn_steps, end_steps, fork_steps, leaving_steps}
 use Rattle.tac_lower.proofs.FormRunExprs.{YieldSteps, onward_steps, ExprSteps, value_steps, truth_steps, carried_steps, expr_steps}
 
 assigned_steps : (line : ℕ) (y : Yield) (v : Part ℕ) → YieldSteps y → Steps 0 v → Steps 0 (assigned line y v)
@@ -131,6 +132,10 @@ level_steps a c r (Stmt-F.Assign line e op v) l all =
 level_steps a c r (Stmt-F.Increment line e) l all = compound_steps line.0 a.sizes AssignOp.Add (expr a.sizes e) (constant line.0 (pos 1)) (expr_steps c a.sizes l.known) (constant_steps 0 line.0 (pos 1))
 level_steps a c r (Stmt-F.Decrement line e) l all = compound_steps line.0 a.sizes AssignOp.Sub (expr a.sizes e) (constant line.0 (pos 1)) (expr_steps c a.sizes l.known) (constant_steps 0 line.0 (pos 1))
 level_steps a c r (Stmt-F.Call line e) l all = value_steps 0 line.0 (expr a.sizes e) (expr_steps c a.sizes l.0)
+level_steps a c r (Stmt-F.PutInt line e) l all =
+    steps_then 0 (value line.0 (expr a.sizes e)) (λ a. quiet line.0 (λ at. Instr.Out a)) (value_steps 0 line.0 (expr a.sizes e) (expr_steps c a.sizes l.0)) (λ m a h up. out_steps m line.0 a up)
+level_steps a c r (Stmt-F.Free line e) l all =
+    steps_then 0 (value line.0 (expr a.sizes e)) (λ a. quiet line.0 (λ at. Instr.Free a)) (value_steps 0 line.0 (expr a.sizes e) (expr_steps c a.sizes l.0)) (λ m a h up. free_steps m line.0 a up)
 level_steps a c r (Stmt-F.Return line v) l all = return_steps a c line.0 c.result v l.1
 level_steps a c r (Stmt-F.Break line) l all = leaving_steps 0 line.0 (λ ends. ends.leave)
 level_steps a c r (Stmt-F.Continue line) l all = leaving_steps 0 line.0 (λ ends. ends.again)

@@ -19,13 +19,14 @@ use Rattle.tac_ir.specs.declared.code.Place.{Place}
 use Rattle.tac_lower.specs.declared.draft.Ends.{Ends}
 use Rattle.tac_lower.specs.declared.plan.Plan.{Plan}
 use Rattle.tac_lower.specs.Parts.{Part, in_turn, ◌▷◌}
-use Rattle.tac_lower.specs.Instrs.{constant, get, load, set, store, test}
+use Rattle.tac_ir.specs.declared.code.Instr.{Instr}
+use Rattle.tac_lower.specs.Instrs.{quiet, constant, get, load, set, store, test}
 use Rattle.tac_lower.specs.Values.{Yield, expr, value, truth, carried}
 use Rattle.tac_lower.specs.Stmts.{Around, assigned, updated, update, compound, is_plain, assignment_by, scalar_by, scalar_at, returned, return, condition, guard, for, ended, branches, stmt_step, stmt}
 use Rattle.tac_lower.proofs.Levels.{typing_is}
 use Rattle.tac_lower.proofs.FormHolds.{World, Anywhere, Holds, holds_chained, holds_then, holds_next, holds_more, holds_given}
 use Rattle.tac_lower.proofs.FormNames.{Shaped, IsPlaceOf}
-use Rattle.tac_lower.proofs.FormFits.{constant_holds, get_holds, load_holds, set_holds, store_holds, leaving_holds, test_holds, IsMainBy, returned_holds, returned_points}
+use Rattle.tac_lower.proofs.FormFits.{out_holds as put_holds, free_holds, constant_holds, get_holds, load_holds, set_holds, store_holds, leaving_holds, test_holds, IsMainBy, returned_holds, returned_points}
 use Rattle.tac_lower.proofs.FormExprParts.{IsPlan, carried_points, Piece, YieldHolds, onward_holds, carried_holds, AllHold}
 use Rattle.tac_lower.proofs.FormExprs.{leaf_of, ExprHolds, value_holds, truth_holds, expr_holds}
 use Rattle.tac_lower.proofs.FormLoops.{aims_of, IsGuard, turn_all, choice_one, choice_two, while_holds, for_holds}
@@ -189,6 +190,12 @@ module _ (w : World) (c : Context) (a : Around) (names : Shaped w c a.sizes) whe
   level_holds main r (Stmt-F.Decrement line e) l all =
       compound_good r.branched (aims_of r) line.0 AssignOp.Sub e (constant line.0 (pos 1)) l (expr_holds w r.branched (aims_of r) c a.sizes names l.known) (constant_holds w r.branched (Anywhere (aims_of r)) line.0 (pos 1))
   level_holds main r (Stmt-F.Call line e) l all = value_good r.branched (aims_of r) line.0 e (expr_holds w r.branched (aims_of r) c a.sizes names l.0)
+  level_holds main r (Stmt-F.PutInt line e) l all =
+      holds_then w r.branched (aims_of r) (value line.0 (expr a.sizes e)) (λ x. quiet line.0 (λ at. Instr.Out x)) (value_good r.branched (aims_of r) line.0 e (expr_holds w r.branched (aims_of r) c a.sizes names l.0))
+      (λ x. put_holds w r.branched (Anywhere (aims_of r)) line.0 x) (λ x. refl)
+  level_holds main r (Stmt-F.Free line e) l all =
+      holds_then w r.branched (aims_of r) (value line.0 (expr a.sizes e)) (λ x. quiet line.0 (λ at. Instr.Free x)) (value_good r.branched (aims_of r) line.0 e (expr_holds w r.branched (aims_of r) c a.sizes names l.0))
+      (λ x. free_holds w r.branched (Anywhere (aims_of r)) line.0 x) (λ x. refl)
   level_holds main r (Stmt-F.Return line v) l all = subst (λ b. Piece w b (aims_of r) (return a line.0 v)) (sym l.0) (return_good (aims_of r) main line.0 c.result v l.1)
   level_holds main r (Stmt-F.Break line) l all =
       holds_more w r.branched (λ ends lo t. t ≡ ends.leave) (Anywhere (aims_of r)) _ (λ ends lo t e. (l, inl e)) (leaving_holds w r.branched line.0 (λ ends. ends.leave))

@@ -94,12 +94,6 @@ getint_is sizes e is = of_form sizes e Form-F.GetInt _ is (sym (form.rolls-GetIn
 pub left_is : (sizes : List ℕ) (e : Expr) → e.form ≡ form.Left → (expr sizes e).yield ≡ form_step sizes Form-F.Left
 left_is sizes e is = of_form sizes e Form-F.Left _ is (sym (form.rolls-Left))
 
-pub putint_is : (sizes : List ℕ) (e : Expr) (x : Expr) → e.form ≡ (form.PutInt x) → (expr sizes e).yield ≡ form_step sizes (Form-F.PutInt (expr sizes x))
-putint_is sizes e x is = of_form sizes e (Form-F.PutInt x) _ is (sym (form.rolls-PutInt x))
-
-pub free_is : (sizes : List ℕ) (e : Expr) (x : Expr) → e.form ≡ (form.Free x) → (expr sizes e).yield ≡ form_step sizes (Form-F.Free (expr sizes x))
-free_is sizes e x is = of_form sizes e (Form-F.Free x) _ is (sym (form.rolls-Free x))
-
-pub new_is : (sizes : List ℕ) (e : Expr) (t : ObjectType) (x : Option Expr) → e.form ≡ (form.New t x) → (expr sizes e).yield ≡ form_step sizes (Form-F.New t (lowered_option sizes x))
-new_is sizes e t None is = of_form sizes e (Form-F.New t None) _ is (sym (form.rolls-New t None))
-new_is sizes e t (Some x) is = of_form sizes e (Form-F.New t (Some x)) _ is (sym (form.rolls-New t (Some x)))
+pub new_is : (sizes : List ℕ) (e : Expr) (n : ℕ) (t : ObjectType) (x : Option Expr) → e.form ≡ (form.New n t x) → (expr sizes e).yield ≡ form_step sizes (Form-F.New n t (lowered_option sizes x))
+new_is sizes e n t None is = of_form sizes e (Form-F.New n t None) _ is (sym (form.rolls-New n t None))
+new_is sizes e n t (Some x) is = of_form sizes e (Form-F.New n t (Some x)) _ is (sym (form.rolls-New n t (Some x)))

@@ -51,7 +51,7 @@ calling =
       result = Some int;
       parameters = 0;
       variables = [];
-      body = Texts.also (Text.run 8 (Tree.put (Tree.call ExprType.Int 0 (Trees.also (Tree.num 2) Trees.none)))) Texts.none;
+      body = Texts.also (Text.put 8 (Tree.call ExprType.Int 0 (Trees.also (Tree.num 2) Trees.none))) Texts.none;
       close = 8;
     } ∷ []
 
@@ -93,7 +93,7 @@ looping = record {
   body = Texts.also (Text.loop 2 (Text.set 2 (Tree.local int 0) AssignOp.Plain (Tree.num 0)) (ints (x 0) BinaryOp.Less (Tree.num 9)) (Text.inc 2 (Tree.local int 0))
       (Text.block (Texts.also (Text.when 3 (ints (x 0) BinaryOp.Equal (Tree.num 3)) (Text.cont 3))
       (Texts.also (Text.when 4 (ints (x 0) BinaryOp.Equal (Tree.num 5)) (Text.brk 4))
-      (Texts.also (Text.run 5 (Tree.put (x 0))) Texts.none)))))
+      (Texts.also (Text.put 5 (x 0)) Texts.none)))))
       (Texts.also (Text.repeat 6 (x 0) (Text.block (Texts.also (Text.set 6 (Tree.local int 0) AssignOp.Sub (Tree.num 1)) Texts.none))) Texts.none);
   close = 7;
 } ∷ []
@@ -131,7 +131,7 @@ deciding = record {
   result = Some int;
   parameters = 0;
   variables = [];
-  body = Texts.also (Text.run 3 (Tree.put (ints (g 0) BinaryOp.And p))) (Texts.also (Text.run 4 (Tree.put (ints (g 0) BinaryOp.Or (Tree.prefix PrefixOp.Not p)))) Texts.none);
+  body = Texts.also (Text.put 3 (ints (g 0) BinaryOp.And p)) (Texts.also (Text.put 4 (ints (g 0) BinaryOp.Or (Tree.prefix PrefixOp.Not p))) Texts.none);
   close = 5;
 } ∷ []
 

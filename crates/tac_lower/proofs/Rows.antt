@@ -48,7 +48,7 @@ main_of first body last = record { line = first; result = Some int; parameters =
 abbrev indexed : List Small
 indexed = main_of 3 (Texts.also (Text.set 4 (Tree.global int 1) AssignOp.Plain (Tree.num 3))
     (Texts.also (Text.set 5 (Tree.index int (Tree.decay int (Tree.global (ints 4) 0)) (Tree.num 3)) AssignOp.Plain (Tree.num 9))
-    (Texts.also (Text.run 6 (Tree.put (g 1))) Texts.none))) 7 ∷ []
+    (Texts.also (Text.put 6 (g 1)) Texts.none))) 7 ∷ []
 
 indexed_row : code_of (program [] (global 1 (ints 4) ∷ global 2 int ∷ []) indexed 0) ≡ record {
   shapes = Shape.Int ∷ Shape.Ptr ∷ Shape.Array 4 0 ∷ [];
@@ -73,7 +73,7 @@ indexed_row = coded [] (global 1 (ints 4) ∷ global 2 int ∷ []) indexed 0 ∙
 abbrev branching : List Small
 branching = main_of 3 (Texts.also (Text.set 4 (Tree.global int 0) AssignOp.Plain (Tree.num 1))
     (Texts.also (Text.par 5 (Texts.also (Text.set 5 (Tree.global int 0) AssignOp.Plain (Tree.num 2)) (Texts.also (Text.set 5 (Tree.global int 1) AssignOp.Plain (g 0)) Texts.none)))
-    (Texts.also (Text.run 6 (Tree.put (g 1))) Texts.none))) 7 ∷ []
+    (Texts.also (Text.put 6 (g 1)) Texts.none))) 7 ∷ []
 
 branching_row : code_of (program [] (global 1 int ∷ global 2 int ∷ []) branching 0) ≡ record {
   shapes = Shape.Int ∷ Shape.Ptr ∷ [];

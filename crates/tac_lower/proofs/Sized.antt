@@ -178,10 +178,8 @@ level_sized sizes line (Form-F.Call f es) =
     (sized_gathered [] (map (value line) (map (expr sizes) (map (λ e. e.0) es))) (values_sized sizes line es)) (λ temps ends n. refl)
 level_sized sizes line Form-F.GetInt = λ ends n. refl
 level_sized sizes line Form-F.Left = λ ends n. refl
-level_sized sizes line (Form-F.PutInt e) = operand_sized sizes line e (λ a. quiet line (λ at. Instr.Out a)) (λ a ends n. refl)
-level_sized sizes line (Form-F.Free e) = operand_sized sizes line e (λ a. quiet line (λ at. Instr.Free a)) (λ a ends n. refl)
-level_sized sizes line (Form-F.New item None) = λ ends n. refl
-level_sized sizes line (Form-F.New item (Some e)) = operand_sized sizes line e (λ a. new line item a) (λ a ends n. refl)
+level_sized sizes line (Form-F.New site item None) = λ ends n. refl
+level_sized sizes line (Form-F.New site item (Some e)) = operand_sized sizes line e (λ a. new line item a) (λ a ends n. refl)
 
 pub expr_sized : (sizes : List ℕ) (e : Expr) → LoweredSized (expr sizes e)
 unfolding expr

@@ -12,7 +12,8 @@ use Rattle.c_typed.specs.declared.stmt.Stmt.{ind-Stmt, map-Stmt, roll-Stmt, Stmt
 use Rattle.c_typed.specs.declared.stmt.Stmt.TheOpen.{Stmt-F}
 use Rattle.tac_lower.specs.declared.plan.Plan.{Plan}
 use Rattle.tac_lower.specs.Parts.{Part, from_here, within, in_turn, ◌▷◌, ◌⨟◌}
-use Rattle.tac_lower.specs.Instrs.{constant, get, load, set, store, test, skip, jump}
+use Rattle.tac_ir.specs.declared.code.Instr.{Instr}
+use Rattle.tac_lower.specs.Instrs.{quiet, constant, get, load, set, store, test, skip, jump}
 use Rattle.tac_lower.specs.Values.{Yield, Lowered, expr, value, truth, carried}
 use Rattle.tac_lower.specs.Stmts.{Around, assigned, update, scalar_at, compound, assignment_by, is_plain, returned, return, condition, guard, choice, turn, while, for, stop, ended, fork, stmt_step, stmt}
 use Rattle.tac_lower.specs.Functions.{parameters_from, default, function}
@@ -134,6 +135,10 @@ level_sized c (Stmt-F.Assign line t op v) =
 level_sized c (Stmt-F.Increment line t) = compound_sized line.0 c.sizes AssignOp.Add (expr c.sizes t) (constant line.0 (pos 1)) (expr_sized c.sizes t) (λ ends n. refl)
 level_sized c (Stmt-F.Decrement line t) = compound_sized line.0 c.sizes AssignOp.Sub (expr c.sizes t) (constant line.0 (pos 1)) (expr_sized c.sizes t) (λ ends n. refl)
 level_sized c (Stmt-F.Call line e) = value_sized line.0 (expr c.sizes e) (expr_sized c.sizes e)
+level_sized c (Stmt-F.PutInt line e) =
+    sized_chained 0 (value line.0 (expr c.sizes e)) (λ a. quiet line.0 (λ at. Instr.Out a)) (value_sized line.0 (expr c.sizes e) (expr_sized c.sizes e)) (λ a ends n. refl)
+level_sized c (Stmt-F.Free line e) =
+    sized_chained 0 (value line.0 (expr c.sizes e)) (λ a. quiet line.0 (λ at. Instr.Free a)) (value_sized line.0 (expr c.sizes e) (expr_sized c.sizes e)) (λ a ends n. refl)
 level_sized c (Stmt-F.Return line v) = return_sized c line.0 v
 level_sized c (Stmt-F.Break line) = λ ends n. refl
 level_sized c (Stmt-F.Continue line) = λ ends n. refl

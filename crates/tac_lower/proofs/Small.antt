@@ -30,8 +30,6 @@ mutual
     call : ExprType → ℕ → Trees → Tree
     getint : Tree
     left : Tree
-    put : Tree → Tree
-    free : Tree → Tree
     new : ObjectType → Tree
     news : ObjectType → Tree → Tree
 
@@ -63,10 +61,8 @@ abbrev mutual
   written (call t f xs) = e t (Form-F.Call f (all_written xs))
   written getint = e ExprType.Int Form-F.GetInt
   written left = e ExprType.Int Form-F.Left
-  written (put x) = e ExprType.Void (Form-F.PutInt (written x))
-  written (free x) = e ExprType.Void (Form-F.Free (written x))
-  written (new t) = e (ExprType.Pointer t) (Form-F.New t None)
-  written (news t x) = e (ExprType.Pointer t) (Form-F.New t (Some (written x)))
+  written (new t) = e (ExprType.Pointer t) (Form-F.New 0 t None)
+  written (news t x) = e (ExprType.Pointer t) (Form-F.New 0 t (Some (written x)))
 
   pub all_written : Trees → List Expr
   all_written none = []
@@ -90,10 +86,8 @@ abbrev mutual
   lowered s (call t f xs) = l s t (Form-F.Call f (all_lowered s xs))
   lowered s getint = l s ExprType.Int Form-F.GetInt
   lowered s left = l s ExprType.Int Form-F.Left
-  lowered s (put x) = l s ExprType.Void (Form-F.PutInt (lowered s x))
-  lowered s (free x) = l s ExprType.Void (Form-F.Free (lowered s x))
-  lowered s (new t) = l s (ExprType.Pointer t) (Form-F.New t None)
-  lowered s (news t x) = l s (ExprType.Pointer t) (Form-F.New t (Some (lowered s x)))
+  lowered s (new t) = l s (ExprType.Pointer t) (Form-F.New 0 t None)
+  lowered s (news t x) = l s (ExprType.Pointer t) (Form-F.New 0 t (Some (lowered s x)))
 
   pub all_lowered : List ℕ → Trees → List Lowered
   all_lowered s none = []
@@ -121,10 +115,8 @@ mutual
   lowers s (call t f xs) = expr_roll s _ _ ∙ ap (λ z. l s t (Form-F.Call f z)) (all_lowers s xs)
   lowers s getint = expr_roll s _ _
   lowers s left = expr_roll s _ _
-  lowers s (put x) = expr_roll s _ _ ∙ ap (λ z. l s ExprType.Void (Form-F.PutInt z)) (lowers s x)
-  lowers s (free x) = expr_roll s _ _ ∙ ap (λ z. l s ExprType.Void (Form-F.Free z)) (lowers s x)
   lowers s (new t) = expr_roll s _ _
-  lowers s (news t x) = expr_roll s _ _ ∙ ap (λ z. l s (ExprType.Pointer t) (Form-F.New t (Some z))) (lowers s x)
+  lowers s (news t x) = expr_roll s _ _ ∙ ap (λ z. l s (ExprType.Pointer t) (Form-F.New 0 t (Some z))) (lowers s x)
 
   pub all_lowers : (s : List ℕ) (xs : Trees) → map (expr s) (all_written xs) ≡ all_lowered s xs
   all_lowers s none = refl

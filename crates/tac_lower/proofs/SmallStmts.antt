@@ -18,6 +18,7 @@ use Rattle.tac_lower.specs.declared.draft.Draft.{Draft}
 use Rattle.tac_lower.specs.Parts.{Part, in_turn, ◌▷◌, ◌⨟◌}
 use Rattle.tac_lower.specs.Instrs.{constant}
 use Rattle.tac_lower.specs.Values.{expr, value}
+use Rattle.tac_lower.specs.Stmts as stmts
 use Rattle.tac_lower.specs.Stmts.{Around, stmt, assignment, compound, returned, tested, choice, while, for, branches, ended, stmt_step}
 use Rattle.tac_lower.specs.Functions.{around, function_with, first_of, no_loop, drafts_from}
 use Rattle.tac_lower.specs.CodeOf.{code_of, code_with, sizes_of, first_numbers}
@@ -31,6 +32,7 @@ mutual
     inc : ℕ → Tree → Code
     dec : ℕ → Tree → Code
     run : ℕ → Tree → Code
+    put : ℕ → Tree → Code
     ret : ℕ → Tree → Code
     brk : ℕ → Code
     cont : ℕ → Code
@@ -57,6 +59,7 @@ abbrev mutual
   code (inc n t) = roll-Stmt (Stmt-F.Increment (at_line n) (written t))
   code (dec n t) = roll-Stmt (Stmt-F.Decrement (at_line n) (written t))
   code (run n x) = roll-Stmt (Stmt-F.Call (at_line n) (written x))
+  code (put n x) = roll-Stmt (Stmt-F.PutInt (at_line n) (written x))
   code (ret n x) = roll-Stmt (Stmt-F.Return (at_line n) (Some (written x)))
   code (brk n) = roll-Stmt (Stmt-F.Break (at_line n))
   code (cont n) = roll-Stmt (Stmt-F.Continue (at_line n))
@@ -82,6 +85,7 @@ abbrev mutual
   part c (inc n t) = compound n c.sizes AssignOp.Add (lowered c.sizes t) (constant n (pos 1))
   part c (dec n t) = compound n c.sizes AssignOp.Sub (lowered c.sizes t) (constant n (pos 1))
   part c (run n x) = value n (lowered c.sizes x)
+  part c (put n x) = stmts.put n (lowered c.sizes x)
   part c (ret n x) = value n (lowered c.sizes x) ▷ λ a. returned c.in_main n a
   part c (brk n) = stmt_step c (Stmt-F.Break (at_line n))
   part c (cont n) = stmt_step c (Stmt-F.Continue (at_line n))
@@ -112,6 +116,7 @@ mutual
   parted c (inc n t) = stmt_roll c _ ∙ ap (λ x. compound n c.sizes AssignOp.Add x (constant n (pos 1))) (lowers c.sizes t)
   parted c (dec n t) = stmt_roll c _ ∙ ap (λ x. compound n c.sizes AssignOp.Sub x (constant n (pos 1))) (lowers c.sizes t)
   parted c (run n x) = stmt_roll c _ ∙ ap (λ x. value n x) (lowers c.sizes x)
+  parted c (put n x) = stmt_roll c _ ∙ ap (λ x. stmts.put n x) (lowers c.sizes x)
   parted c (ret n x) = stmt_roll c _ ∙ ap (λ x. value n x ▷ λ a. returned c.in_main n a) (lowers c.sizes x)
   parted c (brk n) = stmt_roll c _
   parted c (cont n) = stmt_roll c _

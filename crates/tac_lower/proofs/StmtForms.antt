@@ -11,7 +11,7 @@ use Rattle.c_typed.specs.declared.stmt.Stmt.TheVariants as form
 use Rattle.tac_lower.specs.Parts.{Part, in_turn, ◌⨟◌}
 use Rattle.tac_lower.specs.Instrs.{constant}
 use Rattle.tac_lower.specs.Values.{expr, value}
-use Rattle.tac_lower.specs.Stmts.{Around, stmt, stmt_step, assignment, compound, return, leaving, condition, guard, choice, while, for, branches, ended}
+use Rattle.tac_lower.specs.Stmts.{Around, stmt, stmt_step, assignment, compound, put, freed, return, leaving, condition, guard, choice, while, for, branches, ended}
 use Rattle.tac_lower.specs.tools.Nested.{branch}
 use Rattle.tac_lower.proofs.Levels.{stmt_roll}
 
@@ -35,6 +35,12 @@ decrement_is c s line target is = of_form c s (Stmt-F.Decrement line target) _ i
 
 pub call_is : (c : Around) (s : Stmt) (line : Line) (e : Expr) → s ≡ form.Call line e → stmt c s ≡ value line.0 (expr c.sizes e)
 call_is c s line e is = of_form c s (Stmt-F.Call line e) _ is (sym (form.rolls-Call line e))
+
+pub putint_is : (c : Around) (s : Stmt) (line : Line) (e : Expr) → s ≡ form.PutInt line e → stmt c s ≡ put line.0 (expr c.sizes e)
+putint_is c s line e is = of_form c s (Stmt-F.PutInt line e) _ is (sym (form.rolls-PutInt line e))
+
+pub free_is : (c : Around) (s : Stmt) (line : Line) (e : Expr) → s ≡ form.Free line e → stmt c s ≡ freed line.0 (expr c.sizes e)
+free_is c s line e is = of_form c s (Stmt-F.Free line e) _ is (sym (form.rolls-Free line e))
 
 pub return_is : (c : Around) (s : Stmt) (line : Line) (v : Option Expr) → s ≡ form.Return line v → stmt c s ≡ return c line.0 v
 return_is c s line v is = of_form c s (Stmt-F.Return line v) _ is (sym (form.rolls-Return line v))

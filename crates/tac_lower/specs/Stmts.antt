@@ -81,6 +81,13 @@ assignment_by false line sizes op target v = compound line sizes op target v
 abbrev pub assignment : ℕ → List ℕ → AssignOp → Lowered → Part ℕ → Part ℕ
 assignment line sizes op target v = assignment_by (is_plain op) line sizes op target v
 
+-- `putint` and `free`
+abbrev pub put : ℕ → Lowered → Part ℕ
+put line e = value line e ▷ λ a. quiet line (λ at. Instr.Out a)
+
+abbrev pub freed : ℕ → Lowered → Part ℕ
+freed line e = value line e ▷ λ a. quiet line (λ at. Instr.Free a)
+
 -- Returns.
 abbrev pub returned : Bool → ℕ → ℕ → Part ℕ
 returned true line a = last_return line a
@@ -153,6 +160,8 @@ stmt_step c (Stmt-F.Assign line target op v) = assignment line.0 c.sizes op (exp
 stmt_step c (Stmt-F.Increment line target) = compound line.0 c.sizes AssignOp.Add (expr c.sizes target) (constant line.0 (pos 1))
 stmt_step c (Stmt-F.Decrement line target) = compound line.0 c.sizes AssignOp.Sub (expr c.sizes target) (constant line.0 (pos 1))
 stmt_step c (Stmt-F.Call line e) = value line.0 (expr c.sizes e)
+stmt_step c (Stmt-F.PutInt line e) = put line.0 (expr c.sizes e)
+stmt_step c (Stmt-F.Free line e) = freed line.0 (expr c.sizes e)
 stmt_step c (Stmt-F.Return line v) = return c line.0 v
 stmt_step c (Stmt-F.Break line) = leaving line.0 (λ ends. ends.leave)
 stmt_step c (Stmt-F.Continue line) = leaving line.0 (λ ends. ends.again)

@@ -16,7 +16,7 @@ use Rattle.tac_ir.specs.declared.code.Place.{Place}
 use Rattle.tac_lower.specs.declared.plan.Plan.{Plan}
 use Rattle.tac_lower.specs.declared.plan.Logic.{Logic}
 use Rattle.tac_lower.specs.Parts.{Part, given, chained, gathered, ◌▷◌, ◌⨟◌}
-use Rattle.tac_lower.specs.Instrs.{fresh, quiet, constant, null, prefixed, computed, address, field, decay, index, get, load, same, new, call, test, test_past, skip, zero_again}
+use Rattle.tac_lower.specs.Instrs.{fresh, constant, null, prefixed, computed, address, field, decay, index, get, load, same, new, call, test, test_past, skip, zero_again}
 
 -- What an expression is: a variable or a field of one, which have no code; or a piece that leaves a temporary with the value, or
 -- with the pointer to the place.
@@ -196,9 +196,7 @@ form_step sizes (Form-F.Binary l op r) line = left (operation sizes op l r line)
 form_step sizes (Form-F.Call f args) line = left (chained [] (gathered [] (map (value line) args)) (λ temps. call line f temps))
 form_step sizes Form-F.GetInt line = left (fresh line (λ t. Instr.In t))
 form_step sizes Form-F.Left line = left (fresh line (λ t. Instr.Left t))
-form_step sizes (Form-F.PutInt e) line = left (value line e ▷ λ a. quiet line (λ at. Instr.Out a))
-form_step sizes (Form-F.Free e) line = left (value line e ▷ λ a. quiet line (λ at. Instr.Free a))
-form_step sizes (Form-F.New item count) line = left (allocation line item count)
+form_step sizes (Form-F.New site item count) line = left (allocation line item count)
 
 -- an expression, by the words of each struct
 unfoldable pub expr : List ℕ → Expr → Lowered

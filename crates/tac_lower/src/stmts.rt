@@ -43,6 +43,8 @@ impl Writer {
                 self.step(alloc, structs, line.0, AssignOp::Sub, target)
             }
             Stmt::Call { line, call } => self.argument(alloc, structs, line.0, call),
+            Stmt::PutInt { line, value } => self.put_int(alloc, structs, line.0, value),
+            Stmt::Free { line, pointer } => self.free(alloc, structs, line.0, pointer),
             Stmt::Return { line, value } => self.give(alloc, structs, in_main, line.0, value),
             Stmt::Break { line } => self.jump(line.0, ends.leave),
             Stmt::Continue { line } => self.jump(line.0, ends.again),

@@ -113,15 +113,7 @@ impl Writer {
                 let to = self.next.temp;
                 left(self.fresh(line, Instr::Left { to }))
             }
-            Form::PutInt(operand) => {
-                let a = self.value(alloc, structs, line, operand)?;
-                left(self.quiet(line, Instr::Out { a }))
-            }
-            Form::Free(operand) => {
-                let a = self.value(alloc, structs, line, operand)?;
-                left(self.quiet(line, Instr::Free { a }))
-            }
-            Form::New { item, count } => match count {
+            Form::New { item, count, .. } => match count {
                 None => {
                     let a = self.constant(line, 1)?;
                     left(self.block(alloc, line, item, a))

@@ -267,6 +267,33 @@ impl Writer {
         }
     }
 
+    /// `putint`
+    pub(crate) fn put_int(
+        &mut self,
+        alloc: Global,
+        structs: &[Struct],
+        line: u32,
+        e: &Expr,
+    ) -> Result<u32, Stop>
+        ensures { (ends : Ends) → Emits (stmts.put line (expr (struct_sizes structs.now) e.now)) ends self.old self.new result }
+    {
+        let a = self.argument(alloc, structs, line, e)?;
+        self.quiet(line, Instr::Out { a })
+    }
+
+    pub(crate) fn free(
+        &mut self,
+        alloc: Global,
+        structs: &[Struct],
+        line: u32,
+        e: &Expr,
+    ) -> Result<u32, Stop>
+        ensures { (ends : Ends) → Emits (stmts.freed line (expr (struct_sizes structs.now) e.now)) ends self.old self.new result }
+    {
+        let a = self.argument(alloc, structs, line, e)?;
+        self.quiet(line, Instr::Free { a })
+    }
+
     /// A `return`, with 0 where there is no value.
     pub(crate) fn give(
         &mut self,

@@ -4,3 +4,5 @@ pub mod Runs
 pub mod Held
 pub mod Trees
 pub mod Forking
+pub mod Lent
+pub mod Leftover

@@ -1,8 +1,10 @@
 -- Threads by name: what changes, what ends, what joins.
-use Rattle.std.proofs.Common.{◌≡◌, ℕ, ◌+◌, ◌*◌, ◌/◌, ◌%◌, ◌<◌, ◌≤◌, Bool, true, false, List, [], ◌∷◌, refl, sym, ap, ◌∙◌, subst, arith, Option, Some, None, cond, IsSome, ⊎_elim}
+use Rattle.std.proofs.Common.{◌≡◌, ℕ, ◌+◌, ◌*◌, ◌/◌, ◌%◌, ◌<◌, ◌≤◌, Bool, true, false, List, [], ◌∷◌, suc, refl, sym, ap, ◌∙◌, subst, arith, Option, Some, None, cond, IsSome, ⊎_elim}
 use Rattle.std.specs.Option.{is_some}
 use Rattle.std.proofs.lemmas.Bool.{cases_eq}
-use Rattle.std.specs.Ordering.{nat_cmp}
+use Rattle.std.specs.Ordering.{nat_cmp, is_gt}
+use Rattle.std.specs.BTreeMap.Range.{IsLeBy}
+use Rattle.std.specs.Prelude.{All, slice_get}
 use Rattle.std.specs.BTreeMap.{is_at}
 use Rattle.std.specs.Map.{lookup, keys_of}
 use Rattle.std.specs.List.{AllByRecursion}
@@ -19,10 +21,10 @@ use Rattle.tac_thread.specs.Answered.{answered, joined}
 use Rattle.tac_thread.specs.RunsOn.{RunsOn}
 use Rattle.tac_thread.specs.Begun.{root_of}
 use Rattle.tac_thread.specs.Guests.{IsGuestOf, TakesReply}
-use Rattle.tac_thread.specs.Threads.{Threads, Lives, life_in, is_waiting, running, IsRunnable, want_of_life, IsLeastOf, changed, HasBranch, end_in, ended_of, main_value, Settles, AreGuests, IsTree, Takes, IsFed, Resumes, IsStuck, at_fork, IsBegun}
+use Rattle.tac_thread.specs.Threads.{Threads, Lives, life_in, is_waiting, running, IsRunnable, want_of_life, IsLeastOf, changed, HasBranch, end_in, ended_of, main_value, Settles, AreGuests, IsTree, IsSettling, Takes, IsFed, Resumes, IsStuck, at_fork, IsBegun}
 use Rattle.tac_thread.specs.Threads.Resumes.{none_lives}
 use Rattle.tac_thread.specs.Threads.Settles.{goes_on, main_ends, others_live, joins}
-use Rattle.tac_thread.specs.tools.Settling.{first_running, IsStepped, IsSettling, IsWaiting, IsJoined, IsClosed, IsApart}
+use Rattle.tac_thread.specs.tools.Settling.{first_running, IsStepped, IsWaiting, IsJoined, IsClosed, IsApart}
 
 -- a thread that waits wants to
 pub waits_for : {X T : Type 0} (m : Meaning X T) (c : Code) (l : Life X T) → is_waiting l.stage ≡ true → want_of m c l ≡ Some Want.Waits
@@ -112,10 +114,10 @@ no_branch t n i none past b = let e : None ≡ Some b.3.0 = sym (none b.0 b.1 (o
 less_is : (n k : ℕ) → nat_cmp n k ≡ Less → n < k
 less_is n k h = grind (arith, nat_cmp)
 
-is_at_same : (n : ℕ) → is_at (nat_cmp n) n ≡ true
+pub is_at_same : (n : ℕ) → is_at (nat_cmp n) n ≡ true
 is_at_same n = grind (arith, nat_cmp)
 
-is_at_other : (n k : ℕ) → (k ≡ n → ⊥) → is_at (nat_cmp n) k ≡ false
+pub is_at_other : (n k : ℕ) → (k ≡ n → ⊥) → is_at (nat_cmp n) k ≡ false
 is_at_other n k other = grind (arith, nat_cmp)
 
 pub changed_here : {X T : Type 0} (f : Lives X T) (n : ℕ) (l : Option (Life X T)) → changed f n l n ≡ l
@@ -296,10 +298,10 @@ not_ended m c n f g k changes none = ap (ended_of m c) (changes n ∙ changed_he
 -- The least runnable name.
 
 -- names beyond n are looked up among later threads
-skips : {X T : Type 0} (e : ℕ × Life X T) (rest : List (ℕ × Life X T)) (k : ℕ) → (k ≡ e.0 → ⊥) → lookup (is_at (nat_cmp k)) (e ∷ rest) ≡ lookup (is_at (nat_cmp k)) rest
+pub skips : {X T : Type 0} (e : ℕ × Life X T) (rest : List (ℕ × Life X T)) (k : ℕ) → (k ≡ e.0 → ⊥) → lookup (is_at (nat_cmp k)) (e ∷ rest) ≡ lookup (is_at (nat_cmp k)) rest
 skips e rest k other = ap (λ b. cond b (Some e.1) (lookup (is_at (nat_cmp k)) rest)) (is_at_other k e.0 (λ same. other (sym same)))
 
-finds : {X T : Type 0} (e : ℕ × Life X T) (rest : List (ℕ × Life X T)) → lookup (is_at (nat_cmp e.0)) (e ∷ rest) ≡ Some e.1
+pub finds : {X T : Type 0} (e : ℕ × Life X T) (rest : List (ℕ × Life X T)) → lookup (is_at (nat_cmp e.0)) (e ∷ rest) ≡ Some e.1
 finds e rest = ap (λ b. cond b (Some e.1) (lookup (is_at (nat_cmp e.0)) rest)) (is_at_same e.0)
 
 -- what stands behind a lower bound is not below it
@@ -343,6 +345,27 @@ first_is_least {X} {T} (e ∷ es) sorted = by (is_waiting e.1.stage) refl (first
               (λ (other : k ≡ e.0 → ⊥). rest.1 k low (moved k other r))
               (cases_eq k e.0),
         )
+
+le_is : (n k : ℕ) → is_gt (nat_cmp n k) ≡ false → n ≤ k
+le_is n k h = grind (arith, nat_cmp, is_gt)
+
+-- no name stands below a lower bound
+none_under : {X T : Type 0} (n : ℕ) (es : List (ℕ × Life X T)) → All (IsLeBy nat_cmp n) (keys_of es) → (k : ℕ) → k < n → lookup (is_at (nat_cmp k)) es ≡ None
+none_under n [] above k low = refl
+none_under n (e ∷ es) above k low =
+    let higher : n ≤ e.0 = le_is n e.0 (above 0 e.0 (omega arith)) in
+    skips e es k (λ same. omega (arith, higher, low, same)) ∙ none_under n es (λ i d h. above (suc i) d (omega (arith, h))) k low
+
+-- the first thread is the least that runs, where it runs
+pub first_runs : {X T : Type 0} (es : List (ℕ × Life X T)) (n : ℕ) (l : Life X T) → slice_get es 0 ≡ Some (n, l) → is_waiting l.stage ≡ false → All (IsLeBy nat_cmp n) (keys_of es)
+    → IsLeastOf (λ k. lookup (is_at (nat_cmp k)) es) (Some n)
+first_runs [] n l first going above = cc
+first_runs {X} {T} (e ∷ es) n l first going above =
+    let same : e ≡ (n, l) = cc in
+    let here : lookup (is_at (nat_cmp n)) (e ∷ es) ≡ Some l = subst (λ (z : ℕ × Life X T). lookup (is_at (nat_cmp n)) (z ∷ es) ≡ Some l) (sym same) (finds (n, l) es) in (
+      (l, ap running here ∙ ap (λ b. elim b [ true ↦ None | false ↦ Some l ]) going),
+      λ k low r. (let clash : None ≡ Some r.0 = sym (ap running (none_under n (e ∷ es) above k low)) ∙ r.1 in cc),
+    )
 
 pub guest_runs : {X T : Type 0} (m : Meaning X T) (c : Code) (f : Lives X T) (n : ℕ) (l : Life X T) → Some l ≡ running (f n) → IsTree m c f → IsGuestOf m c l
 guest_runs m c f n l is tree = tree.threads.guests n l (running_is (f n) l (sym is)).0

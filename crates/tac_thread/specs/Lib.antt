@@ -7,4 +7,5 @@ pub mod RunsOn
 pub mod Begun
 pub mod Guests
 pub mod Threads
+pub mod Lent
 pub mod tools

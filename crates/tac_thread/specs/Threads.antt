@@ -130,6 +130,11 @@ pub record IsTree {V S : Type 0} (m : Meaning V S) (c : Code) (f : Lives V S) : 
   pub threads : AreGuests m c f
   pub going : (n : ℕ) → ended_of m c (f n) ≡ None
 
+-- no thread but n may have ended
+pub record IsSettling {V S : Type 0} (m : Meaning V S) (c : Code) (n : ℕ) (f : Lives V S) : Type 0 where
+  pub threads : AreGuests m c f
+  pub going : (k : ℕ) → (k ≡ n → ⊥) → ended_of m c (f k) ≡ None
+
 -- the answer is of the kind that the next event of the runnable thread n has, which is no fork
 pub record Takes {V S : Type 0} (m : Meaning V S) (c : Code) (f : Lives V S) (n : ℕ) (reply : ReplyOf V S) : Type 0 where
   pub want : Want V

@@ -1,9 +1,14 @@
-ghost use Rattle.std.specs.Prelude.{◌≡◌, ◌<◌, IsTrue};
+ghost use Rattle.std.specs.Prelude.{◌≡◌, ◌<◌, IsTrue, false};
 ghost use Rattle.tac_ir.specs.Effect.{divides};
 ghost use Rattle.tac_ir.specs.GoodForm.{GoodForm, NamesExist};
 ghost use Rattle.code_layout.specs.LayoutOf.{IsLayoutOf};
+ghost use Rattle.tac_thread.specs.declared.doing.Doing.{Doing};
+ghost use Rattle.tac_thread.specs.declared.want.Want.{Want};
 ghost use Rattle.tac_thread.specs.Life.{temp, instr_of};
+ghost use Rattle.tac_ir.specs.declared.code.Code.{Code};
+ghost use Rattle.tac_ir.specs.declared.code.Instr.{Instr};
 ghost use Rattle.tac_thread.specs.tools.Numbered.{is_numbered};
+ghost use Rattle.tac_thread.specs.tools.Left.{is_silent};
 ghost use Rattle.tac_thread.specs.Guests.{IsFramed};
 ghost use Rattle.tac_thread.specs.Doing.{doing, given, tested, leaves, divided, IsWithin};
 
@@ -67,14 +72,8 @@ fn next_doing<D: Domain>(
     ensures { result ≡ doing D.meaning c.now a.now instr.now }
 {
     match instr {
-        Instr::Const { to, k } => Doing::Gives {
-            to: *to,
-            value: D::int(*k),
-        },
-        Instr::Null { to } => Doing::Gives {
-            to: *to,
-            value: D::null(),
-        },
+        Instr::Const { to, k } => gives(*to, D::int(*k)),
+        Instr::Null { to } => gives(*to, D::null()),
         Instr::Un { to, op, a: x } => given(*to, D::un(*op, &temp::<D>(a, *x))),
         Instr::Bin { to, op, a: x, b: y } => divided::<D>(
             *to,
@@ -82,10 +81,7 @@ fn next_doing<D: Domain>(
             temp::<D>(a, *x),
             temp::<D>(a, *y),
         ),
-        Instr::Addr { to, place } => Doing::Gives {
-            to: *to,
-            value: D::place(c, l, a.fun, &a.stack, place),
-        },
+        Instr::Addr { to, place } => gives(*to, D::place(c, l, a.fun, &a.stack, place)),
         Instr::Field { to, a: x, shape, k } => given(
             *to,
             D::field(c, l, &temp::<D>(a, *x), *shape, *k),
@@ -97,54 +93,96 @@ fn next_doing<D: Domain>(
             b: y,
             words,
         } => { given(*to, D::index(&temp::<D>(a, *x), &temp::<D>(a, *y), *words)) }
-        Instr::Get { place, read, .. } => Doing::Asks(Want::Read {
-            read: ReadNo(*read as u16),
-            word: D::place(c, l, a.fun, &a.stack, place),
-        }),
-        Instr::Load { a: x, read, .. } => Doing::Asks(Want::Read {
-            read: ReadNo(*read as u16),
-            word: temp::<D>(a, *x),
-        }),
-        Instr::Set { place, a: x, def } => Doing::Asks(Want::Write {
-            def: DefNo(*def as u16),
-            word: D::place(c, l, a.fun, &a.stack, place),
-            value: temp::<D>(a, *x),
-        }),
-        Instr::Store { a: x, b: y, def } => Doing::Asks(Want::Write {
-            def: DefNo(*def as u16),
-            word: temp::<D>(a, *x),
-            value: temp::<D>(a, *y),
-        }),
-        Instr::Same { ne, a: x, b: y, .. } => Doing::Asks(Want::Same {
+        Instr::Jump { target } => Doing::Goes { at: *target },
+        Instr::Test { a: x, yes, no } => tested(*yes, *no, D::truth(&temp::<D>(a, *x))),
+        _ => Doing::Asks(wanted::<D>(c, l, a, instr)),
+    }
+}
+
+/// What an instruction asks for that does nothing on its own.
+fn wanted<D: Domain>(
+    c: &Code,
+    l: &Layout,
+    a: &Activation<D::Value, D::Stack>,
+    instr: &Instr,
+) -> Want<D::Value>
+    requires form { GoodForm c.now }
+    requires laid { IsLayoutOf c.now l.now }
+    requires frame { IsFramed D.meaning c.now a.now }
+    requires names { NamesExist c.now a.now.fun instr.now }
+    requires numbers { IsTrue (is_numbered instr.now) }
+    ensures { is_silent instr.now ≡ false → Doing.Asks result ≡ doing D.meaning c.now a.now instr.now }
+{
+    match instr {
+        Instr::Get { place, read, .. } => reads(*read, D::place(c, l, a.fun, &a.stack, place)),
+        Instr::Load { a: x, read, .. } => reads(*read, temp::<D>(a, *x)),
+        Instr::Set { place, a: x, def } => writes(
+            *def,
+            D::place(c, l, a.fun, &a.stack, place),
+            temp::<D>(a, *x),
+        ),
+        Instr::Store { a: x, b: y, def } => writes(*def, temp::<D>(a, *x), temp::<D>(a, *y)),
+        Instr::Same { ne, a: x, b: y, .. } => Want::Same {
             a: temp::<D>(a, *x),
             b: temp::<D>(a, *y),
             ne: *ne,
-        }),
-        Instr::New { a: x, site, .. } => Doing::Asks(Want::New {
+        },
+        Instr::New { a: x, site, .. } => Want::New {
             site: *site as u16,
             count: temp::<D>(a, *x),
-        }),
-        Instr::Free { a: x } => Doing::Asks(Want::Free {
+        },
+        Instr::Free { a: x } => Want::Free {
             word: temp::<D>(a, *x),
-        }),
-        Instr::In { .. } => Doing::Asks(Want::In),
-        Instr::Left { .. } => Doing::Asks(Want::Left),
-        Instr::Out { a: x } => Doing::Asks(Want::Out {
+        },
+        Instr::In { .. } => Want::In,
+        Instr::Left { .. } => Want::Left,
+        Instr::Out { a: x } => Want::Out {
             value: temp::<D>(a, *x),
-        }),
-        Instr::Call { fun, .. } => Doing::Asks(Want::Call { fun: *fun }),
-        Instr::Ret {
-            read: Some(read),
-            ..
-        } => leaves(*read, D::link(&a.stack)),
-        Instr::Ret { a: x, read: None } => Doing::Asks(Want::Ended(Some(temp::<D>(a, *x)))),
-        Instr::Jump { target } => Doing::Goes { at: *target },
-        Instr::Test { a: x, yes, no } => tested(*yes, *no, D::truth(&temp::<D>(a, *x))),
-        Instr::Turn => Doing::Asks(Want::Turn),
-        Instr::Fork { entries, .. } => Doing::Asks(Want::Fork {
+        },
+        Instr::Call { fun, .. } => Want::Call { fun: *fun },
+        Instr::Ret { a: x, read } => returns::<D>(a, *x, *read),
+        Instr::Turn => Want::Turn,
+        Instr::Fork { entries, .. } => Want::Fork {
             branches: entries.len() as u32,
-        }),
-        Instr::End => Doing::Asks(Want::Ended(None)),
+        },
+        _ => Want::Ended(None),
+    }
+}
+
+fn gives<V>(to: u32, value: V) -> Doing<V>
+    ensures { result ≡ Doing.Gives to value }
+{
+    Doing::Gives { to, value }
+}
+
+fn reads<V>(read: u32, word: V) -> Want<V>
+    requires { read < 65536 }
+    ensures { result ≡ Want.Read (record { 0 = read }) word }
+{
+    let read = ReadNo(read as u16);
+    Want::Read { read, word }
+}
+
+fn writes<V>(def: u32, word: V, value: V) -> Want<V>
+    requires { def < 65536 }
+    ensures { result ≡ Want.Write (record { 0 = def }) word value }
+{
+    let def = DefNo(def as u16);
+    Want::Write { def, word, value }
+}
+
+// A return reads the link of its frame first, where it has a read for it.
+fn returns<D: Domain>(
+    a: &Activation<D::Value, D::Stack>,
+    x: u32,
+    read: Option<u32>,
+) -> Want<D::Value>
+    requires { IsTrue (is_numbered (Instr.Ret x read)) }
+    ensures { (c : Code) → Doing.Asks result ≡ doing D.meaning c a.now (Instr.Ret x read) }
+{
+    match read {
+        None => Want::Ended(Some(temp::<D>(a, x))),
+        Some(read) => leaves(read, D::link(&a.stack)),
     }
 }
 
@@ -182,15 +220,15 @@ fn tested<V>(yes: u32, no: u32, truth: Option<bool>) -> Doing<V>
     }
 }
 
-fn leaves<V>(read: u32, link: Option<u32>) -> Doing<V>
+fn leaves<V>(read: u32, link: Option<u32>) -> Want<V>
     requires { read < 65536 }
-    ensures { result ≡ leaves read link }
+    ensures { Doing.Asks result ≡ leaves read link }
 {
     match link {
-        None => Doing::Asks(Want::Ret),
-        Some(word) => Doing::Asks(Want::Pop {
+        None => Want::Ret,
+        Some(word) => Want::Pop {
             read: ReadNo(read as u16),
             word,
-        }),
+        },
     }
 }

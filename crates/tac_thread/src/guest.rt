@@ -155,7 +155,7 @@ impl<D: Domain> Guest<D> {
     }
 
     /// Whether the thread stands where one can end.
-    pub(crate) fn may_have_ended(&self, c: &Code) -> bool
+    pub fn may_have_ended(&self, c: &Code) -> bool
         requires { GoodForm c.now }
         ensures { result ≡ false → end_in (want_of D.meaning c.now self.now) ≡ None }
     {

@@ -1,12 +1,13 @@
-ghost use Rattle.std.specs.Prelude.{◌≡◌, ℕ, IsTrue, ◌<◌, ◌^◌, true, false, Some, IfOk, OnOk, OnErr, option_map};
-ghost use Rattle.std.specs.Option.{option_copied};
+ghost use Rattle.std.specs.Prelude.{◌≡◌, ℕ, IsTrue, ◌<◌, ◌^◌, true, false, Some, IfOk, IfSome, OnOk, OnErr, option_map};
+ghost use Rattle.std.specs.Option.{option_copied, option_copied_mut};
+ghost use Rattle.std.specs.Borrow.{sem};
 ghost use Rattle.tac_ir.specs.GoodForm.{GoodForm};
 ghost use Rattle.std.specs.Ordering.{nat_cmp};
 ghost use Rattle.std.specs.Map.{keys_of};
 ghost use Rattle.std.specs.List.Sorted.{IsStrictlySortedBy};
 ghost use Rattle.code_layout.specs.LayoutOf.{IsLayoutOf};
-ghost use Rattle.tac_thread.specs.tools.Settling.{first_running, IsStepped, IsSettling, IsClosed, IsWaiting, IsJoined};
-ghost use Rattle.tac_thread.specs.Threads.{life_in, running, next_in, IsLeastOf, name_number, point_of, stack_of, end_in, ended_of, main_value, changed, HasBranch, Settles, IsFed, IsBegun, Forks, TakesStacks, AreGuests, IsTree, Takes, IsSame};
+ghost use Rattle.tac_thread.specs.tools.Settling.{first_running, IsStepped, IsClosed, IsWaiting, IsJoined};
+ghost use Rattle.tac_thread.specs.Threads.{life_in, running, next_in, IsLeastOf, name_number, point_of, stack_of, end_in, ended_of, main_value, changed, HasBranch, Settles, IsFed, IsBegun, Forks, TakesStacks, AreGuests, IsTree, IsSettling, Takes, IsSame};
 
 use crate::deep::is_deep;
 use crate::domain::Domain;
@@ -36,6 +37,8 @@ impl<D: Domain> Model for Tree<D> {
 }
 
 impl<D: Domain> Tree<D> {
+    ghost use Rattle.tac_thread.specs.Lent.{LendsLife};
+
     /// Thread 1 alone, up to its first event.
     pub fn new(alloc: Global, c: &Code, l: &Layout, s: D::Stack) -> Result<Tree<D>, Memory>
         requires form { GoodForm c.now }
@@ -84,11 +87,33 @@ impl<D: Domain> Tree<D> {
         }
     }
 
+    /// A thread that lives, for one event: it tells what it wants, where it stands and its stack, and takes the answer, by one
+    /// look-up. Behind an answer `settle` follows, where the thread may have ended.
+    pub fn thread_mut(&mut self, name: Name) -> Option<&mut Guest<D>>
+        ensures* lent { sem 𝓛 (LendsLife D.row D.Value.row D.Stack.row D.Domain self.entry name.0 result) }
+        ensures life { option_copied_mut result ≡ life_in self.old name.0 }
+    {
+        self.guests.get_mut(&name.0)
+    }
+
     /// The least name of a runnable thread.
     pub fn least(&self) -> Option<Name>
         ensures { IsLeastOf (life_in self.now) (option_map name_number result) }
     {
-        self.first_running()
+        match self.first_name() {
+            Some(name) => Some(name),
+            None => self.first_running(),
+        }
+    }
+
+    // The least name, where that thread runs.
+    fn first_name(&self) -> Option<Name>
+        ensures { IfSome result (λ name. IsLeastOf (life_in self.now) (Some name.0)) }
+    {
+        match self.guests.first_key_value() {
+            Some((name, guest)) if !guest.is_waiting() => Some(Name(*name)),
+            _ => None,
+        }
     }
 
     /// Where the next event of a runnable thread stands.
@@ -195,8 +220,8 @@ impl<D: Domain> Tree<D> {
         Ok(guest.may_have_ended(c))
     }
 
-    // Lets a thread that has ended live no more, and its parent go on after the last branch, and so on.
-    pub(crate) fn settle(&mut self, c: &Code, l: &Layout, name: u64)
+    /// Lets a thread that has ended live no more, and its parent go on after the last branch, and so on.
+    pub fn settle(&mut self, c: &Code, l: &Layout, name: u64)
         requires form { GoodForm c.now }
         requires laid { IsLayoutOf c.now l.now }
         requires threads { IsSettling D.meaning c.now name (life_in self.old) }

@@ -2,7 +2,6 @@ ghost use Rattle.std.specs.Prelude.{IfOk};
 ghost use Rattle.word_table.specs.Tables.{CanRun};
 ghost use Rattle.flat_core.specs.Runs.{IsShort};
 
-use crate::halt::Halt;
 use crate::journal::Written;
 use crate::row::Row;
 use crate::written::written_module;
@@ -11,26 +10,29 @@ use dfi_base::{Memory, Name};
 use flat_core::{RunFault, Turns, run};
 use std::alloc::Global;
 use tac_ir::{Entry, Journal, Module};
+use test_base::Halt;
 
 // The most numbers of an input, and the most names.
 const MOST: usize = 100;
 
-/// The title of a row, and what its run tells.
-pub fn text_of(alloc: Global, row: &Row) -> Result<Vec<u8>, Halt> {
-    let title = row.title;
-    let mut text = format!(in alloc; "-- {title}\n")?.into_bytes();
-    text.extend_from_slice(&told_by(alloc, row)?)?;
-    Ok(text)
+impl test_base::Row for Row {
+    fn text(&self, alloc: Global) -> Result<Vec<u8>, Halt> {
+        let title = self.title;
+        let mut text = format!(in alloc; "-- {title}\n")?.into_bytes();
+        text.extend_from_slice(&told_by(alloc, self)?)?;
+        Ok(text)
+    }
 }
 
-/// The title of a journal that is written by hand, and its text.
-pub fn written_text(alloc: Global, written: &Written) -> Result<Vec<u8>, Halt> {
-    let title = written.title;
-    let mut text = format!(in alloc; "-- {title}\n")?.into_bytes();
-    let module = written_module(alloc)?;
-    let journal = written.journal(alloc)?;
-    text.extend_from_slice(&report(alloc, &module, &journal)?)?;
-    Ok(text)
+impl test_base::Row for Written {
+    fn text(&self, alloc: Global) -> Result<Vec<u8>, Halt> {
+        let title = self.title;
+        let mut text = format!(in alloc; "-- {title}\n")?.into_bytes();
+        let module = written_module(alloc)?;
+        let journal = self.journal(alloc)?;
+        text.extend_from_slice(&report(alloc, &module, &journal)?)?;
+        Ok(text)
+    }
 }
 
 fn told_by(alloc: Global, row: &Row) -> Result<Vec<u8>, Halt> {

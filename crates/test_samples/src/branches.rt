@@ -50,6 +50,76 @@ pub fn branching(alloc: Global) -> Result<Module, AllocError>
     module_of(alloc, &BRANCHING)
 }
 
+const NESTING_MAIN: [Row; 12] = [
+    Row::Fork(9, 1, 7),
+    Row::Fork(6, 2, 4),
+    Row::Out(0),
+    Row::End,
+    Row::Out(0),
+    Row::End,
+    Row::End,
+    Row::Out(0),
+    Row::End,
+    Row::Out(0),
+    Row::Const(1, 7),
+    Row::Halt(1),
+];
+
+/// `int main() { par { { par { { putint(0); } { putint(0); } } } { putint(0); } } putint(0); return 7; }`
+const NESTING: Sample<'static> = Sample {
+    size: Size::Small,
+    arrays: &[],
+    globals: &[],
+    sites: &[],
+    main: 0,
+    funs: &[Function {
+        params: 0,
+        vars: &[],
+        rows: &NESTING_MAIN,
+    }],
+    classes: &[],
+    sets: &[],
+};
+
+pub fn nesting(alloc: Global) -> Result<Module, AllocError>
+    ensures { IfOk result CanRun }
+{
+    module_of(alloc, &NESTING)
+}
+
+const STOPPING_MAIN: [Row; 8] = [
+    Row::Fork(6, 1, 3),
+    Row::Bin(0, BinOp::Quo, 0, 0),
+    Row::End,
+    Row::Out(0),
+    Row::Out(0),
+    Row::End,
+    Row::Const(0, 0),
+    Row::Halt(0),
+];
+
+/// Two branches, of which the first divides by 0 and the second writes two numbers.
+const STOPPING: Sample<'static> = Sample {
+    size: Size::Small,
+    arrays: &[],
+    globals: &[],
+    sites: &[],
+    main: 0,
+    funs: &[Function {
+        params: 0,
+        vars: &[],
+        rows: &STOPPING_MAIN,
+    }],
+    classes: &[],
+    sets: &[],
+};
+
+pub fn stopping(alloc: Global) -> Result<Module, AllocError>
+    ensures { IfOk result CanRun }
+{
+    module_of(alloc, &STOPPING)
+}
+
 const DEEPENING_MAIN: [Row; 3] = [Row::Call(0, 1, 1), Row::Const(1, 0), Row::Halt(1)];
 
 const DEEPENING_AGAIN: [Row; 6] = [

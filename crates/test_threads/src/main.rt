@@ -10,7 +10,6 @@ mod bytes;
 mod codes;
 mod deep;
 mod desk;
-mod halt;
 mod log;
 mod program;
 mod row;
@@ -20,50 +19,17 @@ mod text;
 mod word_run;
 
 use crate::deep::Nesting;
-use crate::halt::Halt;
-use crate::row::Row;
 use crate::rows::{bytes as byte_rows, long, words as word_rows};
-use crate::text::{deep_text, text_of};
-use std::io;
-use std::io::Write;
 use std::process::ExitCode;
-
-const DEVICE_FAILED: u8 = 1;
-
-const NO_MEMORY: u8 = 8;
-
-fn print_row<R: Print + AllocGlobal>(rt: &R, row: &Row) -> Result<(), Halt> {
-    let text = text_of(rt.alloc(), row)?;
-    io::writer(rt).write_all(text.as_bytes())?;
-    Ok(())
-}
-
-fn print_rows<R: Print + AllocGlobal>(rt: &R, rows: &[Row]) -> Result<(), Halt> {
-    for row in rows {
-        print_row(rt, row)?;
-    }
-    Ok(())
-}
-
-fn print_deep<R: Print + AllocGlobal>(rt: &R, nesting: Nesting) -> Result<(), Halt> {
-    let text = deep_text(rt.alloc(), nesting)?;
-    io::writer(rt).write_all(text.as_bytes())?;
-    Ok(())
-}
+use test_base::{Halt, ended, run_rows};
 
 fn print_table<R: Print + AllocGlobal>(rt: &R) -> Result<(), Halt> {
-    print_rows(rt, byte_rows::rows())?;
-    print_rows(rt, word_rows::rows())?;
-    print_rows(rt, long::rows())?;
-    print_deep(rt, Nesting::Array)?;
-    print_deep(rt, Nesting::Struct)?;
-    print_deep(rt, Nesting::Pair)
+    run_rows(rt, byte_rows::rows())?;
+    run_rows(rt, word_rows::rows())?;
+    run_rows(rt, long::rows())?;
+    run_rows(rt, &[Nesting::Array, Nesting::Struct, Nesting::Pair])
 }
 
 fn main(rt: HostRuntime) -> ExitCode {
-    match print_table(&rt) {
-        Ok(()) => ExitCode::SUCCESS,
-        Err(Halt::Device) => ExitCode::from(DEVICE_FAILED),
-        Err(Halt::Memory) => ExitCode::from(NO_MEMORY),
-    }
+    ended(print_table(&rt))
 }

@@ -1,19 +1,20 @@
 ghost use Rattle.tac_ir.specs.GoodForm.{GoodForm};
 
 use crate::deep::{Nesting, words};
-use crate::halt::Halt;
 use crate::row::{Row, Values};
 use crate::{byte_run, word_run};
 use std::alloc::Global;
 use tac_ir::Code;
+use test_base::Halt;
 
 /// How deep the measured shapes are nested.
 const LEVELS: u32 = 24_000;
 
-/// The title of a row, and what its run tells.
-pub fn text_of(alloc: Global, row: &Row) -> Result<String, Halt> {
-    let module = row.program.module(alloc)?;
-    told(alloc, &module.code, row)
+impl test_base::Row for Row {
+    fn text(&self, alloc: Global) -> Result<Vec<u8>, Halt> {
+        let module = self.program.module(alloc)?;
+        Ok(told(alloc, &module.code, self)?.into_bytes())
+    }
 }
 
 fn told(alloc: Global, c: &Code, row: &Row) -> Result<String, Halt>
@@ -27,11 +28,14 @@ fn told(alloc: Global, c: &Code, row: &Row) -> Result<String, Halt>
     }
 }
 
-/// How many words the levels of this kind have.
-pub fn deep_text(alloc: Global, nesting: Nesting) -> Result<String, Halt> {
-    let title = title_of(nesting);
-    let words = words(alloc, nesting, LEVELS)?.unwrap_or(0);
-    Ok(format!(in alloc; "-- {LEVELS} {title} within one another\nwords {words}\n")?)
+impl test_base::Row for Nesting {
+    fn text(&self, alloc: Global) -> Result<Vec<u8>, Halt> {
+        let title = title_of(*self);
+        let words = words(alloc, *self, LEVELS)?.unwrap_or(0);
+        Ok(format!(in alloc;
+            "-- {LEVELS} {title} within one another\nwords {words}\n"
+        )?.into_bytes())
+    }
 }
 
 fn title_of(nesting: Nesting) -> &'static str {

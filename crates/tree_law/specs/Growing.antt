@@ -1,5 +1,5 @@
 -- How a history grows by one entry, over any values: four kinds of entries, of which a chain of trees is built.
-use Rattle.std.specs.Prelude.{◌≡◌, ℕ, IsTrue, false, Option, Some, List, [], ◌∷◌}
+use Rattle.std.specs.Prelude.{◌≡◌, ℕ, false, Option, Some, List, [], ◌∷◌}
 use Rattle.tac_ir.specs.declared.code.Code.{Code}
 use Rattle.tac_thread.specs.declared.want.ReplyOf.{ReplyOf}
 use Rattle.tac_thread.specs.Meaning.{Meaning}

@@ -1,5 +1,5 @@
 -- What is so of the trees of threads of code of a good form, whatever the values are and whatever entries say.
-use Rattle.std.specs.Prelude.{◌≡◌, ℕ, IsTrue, Bool, true, Option, List}
+use Rattle.std.specs.Prelude.{IsTrue, Option, List}
 use Rattle.tac_ir.specs.declared.code.Code.{Code}
 use Rattle.tac_ir.specs.GoodForm.{GoodForm}
 use Rattle.tac_thread.specs.declared.want.ReplyOf.{ReplyOf}

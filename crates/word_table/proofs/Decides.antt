@@ -16,23 +16,23 @@ use Rattle.word_table.specs.Holds.{HoldsAfter}
 use Rattle.word_table.specs.tools.Deciding.{found_by, decided}
 use Rattle.word_table.proofs.Members.{allowed_is}
 
-past : (size w : ℕ) → size ≤ w → nat_le size w ≡ true
+pub past : (size w : ℕ) → size ≤ w → nat_le size w ≡ true
 past size w h = grind (arith, nat_le)
 
-within : (size w : ℕ) → w < size → nat_le size w ≡ false
+pub within : (size w : ℕ) → w < size → nat_le size w ≡ false
 within size w h = grind (arith, nat_le)
 
 -- a word that is found, and one that is not
-found : (t : Words) (m : Module) (r w : ℕ) → w < length t.values → w < length t.classes → decided m t r w ≡ found_by m t.rows r (slice_index t.values w) (slice_index t.classes w)
+pub found : (t : Words) (m : Module) (r w : ℕ) → w < length t.values → w < length t.classes → decided m t r w ≡ found_by m t.rows r (slice_index t.values w) (slice_index t.classes w)
 found t m r w low lower =
     ap (λ o. elim o as (λ x. Answer) [ None ↦ Answer.Stop Stop.Address | Some value ↦ elim (slice_get t.classes w) [ None ↦ Answer.Stop Stop.Address | Some class ↦ found_by m t.rows r value class ] ]) (slice_get-get_or t.values w 0 low)
     ∙ ap (λ o. elim o as (λ x. Answer) [ None ↦ Answer.Stop Stop.Address | Some class ↦ found_by m t.rows r (slice_index t.values w) class ]) (slice_get-get_or t.classes w 0 lower)
 
-missed : (t : Words) (m : Module) (r w : ℕ) → length t.values ≤ w → decided m t r w ≡ Answer.Stop Stop.Address
+pub missed : (t : Words) (m : Module) (r w : ℕ) → length t.values ≤ w → decided m t r w ≡ Answer.Stop Stop.Address
 missed t m r w high =
     ap (λ o. elim o as (λ x. Answer) [ None ↦ Answer.Stop Stop.Address | Some value ↦ elim (slice_get t.classes w) [ None ↦ Answer.Stop Stop.Address | Some class ↦ found_by m t.rows r value class ] ]) (slice_get_past t.values w high)
 
-abbrev answer_in : Bool → Bool → ℕ → ℕ → Answer
+abbrev pub answer_in : Bool → Bool → ℕ → ℕ → Answer
 answer_in beyond alarms class value = if beyond then Answer.Stop Stop.Address else (if alarms then Answer.Stop (Stop.Alarm class) else Answer.Value value)
 
 pub reads : (m : Module) (h : List Entry) (t : Words) (r w : ℕ) → CanRun m → HoldsAfter m h t → decided m t r w ≡ read_answer m h r w

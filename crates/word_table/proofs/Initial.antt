@@ -17,7 +17,6 @@ use Rattle.word_table.specs.Words.{Words}
 use Rattle.word_table.specs.Holds.{HoldsAfter}
 use Rattle.word_table.specs.tools.BitRows.{AreRowsOf}
 use Rattle.word_table.specs.Tables.{CanRun}
-use Rattle.word_table.proofs.LaidOut.{low_globals}
 use Rattle.tac_ir.specs.declared.module.Size.{Size}
 
 -- a run of one value in front of a list
@@ -137,7 +136,7 @@ AreSized m sizes = (s : ℕ) → slice_index sizes s ≡ shape_words m.code s
 
 -- the areas fit into the memory
 pub fits : (m : Module) (sizes : List ℕ) (areas : List Area) (size : ℕ) → CanRun m → AreSized m sizes → areas ≡ areas_from sizes m 0 m.code.globals → size ≡ memory_words m.size → 16 + area_words areas ≤ size
-fits m sizes areas size can sized is same = omega (arith, same, roomy m.size, low_globals m.code can.form, areas_end m sizes sized, ap area_words is)
+fits m sizes areas size can sized is same = omega (arith, same, roomy m.size, can.form.globals.words, areas_end m sizes sized, ap area_words is)
 
 pub begins : (m : Module) (sizes : List ℕ) (areas : List Area) (size : ℕ) (t : Words) → CanRun m → AreSized m sizes → areas ≡ areas_from sizes m 0 m.code.globals → size ≡ memory_words m.size
     → t.values ≡ memory_of (λ a. a.value) size areas → t.classes ≡ memory_of (λ a. a.class) size areas → AreRowsOf m t.rows → HoldsAfter m [] t

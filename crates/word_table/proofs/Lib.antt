@@ -3,4 +3,5 @@ pub mod Members
 pub mod Decides
 pub mod Writes
 pub mod Initial
-pub mod LaidOut
+pub mod Striped
+pub mod Picks

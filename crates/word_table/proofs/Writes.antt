@@ -15,7 +15,7 @@ use Rattle.word_table.specs.Holds.{HoldsAfter}
 use Rattle.word_table.specs.tools.Deciding.{written}
 use Rattle.word_table.proofs.Decides.{writes_inside}
 
-abbrev last_by : Module → List Entry → ℕ → Option Written → Written
+abbrev pub last_by : Module → List Entry → ℕ → Option Written → Written
 last_by m h w o = elim o [ Some written ↦ written | None ↦ last_write m.code h w ]
 
 -- the last write of a word, after one more entry
@@ -35,6 +35,23 @@ stays m e h t nothing holds =
       rows = holds.rows;
     }
 
+-- the last write of a word after one that is answered
+wrote_test : (e : Entry) (w d at v : ℕ) → e.op ≡ Op.Write (record { 0 = d }) at v → e.answer ≡ Answer.Unit
+    → write_to w e.op e.answer ≡ (elim (nat_eq at w) as (λ x. Option Written) [ true ↦ Some (record { def = d; value = v }) | false ↦ None ])
+wrote_test e w d at v op answer = ap (λ o. write_to w o e.answer) op ∙ ap (write_to w (Op.Write (record { 0 = d }) at v)) answer
+
+pub last_put : (m : Module) (e : Entry) (h : List Entry) (w d at v : ℕ) → e.op ≡ Op.Write (record { 0 = d }) at v → e.answer ≡ Answer.Unit → at ≡ w
+    → last_write m.code (e ∷ h) w ≡ record { def = d; value = v }
+last_put m e h w d at v op answer q =
+    last_more m e h w
+    ∙ ap (last_by m h w) (wrote_test e w d at v op answer ∙ ap (λ b. elim b as (λ x. Option Written) [ true ↦ Some (record { def = d; value = v }) | false ↦ None ]) (eq-eqb at w q))
+
+pub last_kept : (m : Module) (e : Entry) (h : List Entry) (w d at v : ℕ) → e.op ≡ Op.Write (record { 0 = d }) at v → e.answer ≡ Answer.Unit → (at ≡ w → ⊥)
+    → last_write m.code (e ∷ h) w ≡ last_write m.code h w
+last_kept m e h w d at v op answer q =
+    last_more m e h w
+    ∙ ap (last_by m h w) (wrote_test e w d at v op answer ∙ ap (λ b. elim b as (λ x. Option Written) [ true ↦ Some (record { def = d; value = v }) | false ↦ None ]) (ne_eqb at w q))
+
 -- a write that is answered
 puts : (m : Module) (e : Entry) (h : List Entry) (t : Words) (d at v : ℕ) → at < memory_words m.size → e.op ≡ Op.Write (record { 0 = d }) at v → e.answer ≡ Answer.Unit → HoldsAfter m h t
     → HoldsAfter m (e ∷ h) (record { values = slice_set t.values at v; classes = slice_set t.classes at (class_of m d); rows = t.rows })
@@ -46,17 +63,11 @@ puts m e h t d at v low op answer holds = record {
   rows = holds.rows;
 }
   where
-    wrote : Written
-    wrote = record { def = d; value = v }
-
-    test : (w : ℕ) → write_to w e.op e.answer ≡ (elim (nat_eq at w) [ true ↦ Some wrote | false ↦ None ])
-    test w = ap (λ o. write_to w o e.answer) op ∙ ap (write_to w (Op.Write (record { 0 = d }) at v)) answer
-
-    last_here : (w : ℕ) → at ≡ w → last_write m.code (e ∷ h) w ≡ wrote
-    last_here w q = last_more m e h w ∙ ap (last_by m h w) (test w ∙ ap (λ b. elim b as (λ x. Option Written) [ true ↦ Some wrote | false ↦ None ]) (eq-eqb at w q))
+    last_here : (w : ℕ) → at ≡ w → last_write m.code (e ∷ h) w ≡ record { def = d; value = v }
+    last_here w q = last_put m e h w d at v op answer q
 
     last_there : (w : ℕ) → (at ≡ w → ⊥) → last_write m.code (e ∷ h) w ≡ last_write m.code h w
-    last_there w q = last_more m e h w ∙ ap (last_by m h w) (test w ∙ ap (λ b. elim b as (λ x. Option Written) [ true ↦ Some wrote | false ↦ None ]) (ne_eqb at w q))
+    last_there w q = last_kept m e h w d at v op answer q
 
     value_here : (w : ℕ) → at ≡ w → slice_index (slice_set t.values at v) w ≡ (last_write m.code (e ∷ h) w).value
     value_here w q =
@@ -73,7 +84,7 @@ puts m e h t d at v low op answer holds = record {
     class_there w q within = get_or-set_other t.classes at w (class_of m d) 0 (λ r. q (sym r)) ∙ holds.class w within ∙ ap (λ (l : Written). class_of m l.def) (sym (last_there w q))
 
 -- a write past the memory writes nothing
-stopped_writes_nothing : (op : Op) (answer : Answer) (w : ℕ) (d at v : ℕ) → op ≡ Op.Write (record { 0 = d }) at v → (at ≡ w → ⊥) → write_to w op answer ≡ None
+pub stopped_writes_nothing : (op : Op) (answer : Answer) (w : ℕ) (d at v : ℕ) → op ≡ Op.Write (record { 0 = d }) at v → (at ≡ w → ⊥) → write_to w op answer ≡ None
 stopped_writes_nothing op answer w d at v is other = ap (λ o. write_to w o answer) is ∙ by answer
   where
     by : (a : Answer) → write_to w (Op.Write (record { 0 = d }) at v) a ≡ None

@@ -1,4 +1,5 @@
 pub mod Areas
+pub mod BitRows
 pub mod Classes
 pub mod Deciding
-pub mod BitRows
+pub mod Picked

@@ -5,6 +5,9 @@ mod areas;
 mod bits;
 mod classes;
 mod rows;
+mod stripe;
 mod table;
 
+pub use rows::ReadRows;
+pub use stripe::{StripeTable, stripes_of_a_memory};
 pub use table::WordTable;

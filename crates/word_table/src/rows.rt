@@ -2,6 +2,8 @@ ghost use Rattle.std.specs.Prelude.{◌≡◌, ℕ, ◌/◌, ◌<◌, ◌≤◌,
 ghost use Rattle.tac_ir.specs.Answers.{class_of};
 ghost use Rattle.word_table.specs.tools.Classes.{AreShort};
 ghost use Rattle.word_table.specs.tools.BitRows.{row_has, IsRow, AreRows};
+ghost use Rattle.word_table.specs.Tables.{CanRun};
+ghost use Rattle.word_table.specs.Decides.{DecideReads};
 
 use crate::bits::Bits;
 use crate::classes::class_of;
@@ -9,6 +11,24 @@ use dfi_base::Memory;
 use sqlite_items::Items;
 use std::alloc::Global;
 use tac_ir::Module;
+
+/// The classes that each read of a module allows.
+#[derive(Drop)]
+pub struct ReadRows {
+    pub rows: Vec<Bits>,
+}
+
+impl ReadRows {
+    /// The rows of a module.
+    pub fn new(alloc: Global, m: &Module) -> Result<ReadRows, Memory>
+        requires { CanRun m.now }
+        ensures { IfOk result (λ made. DecideReads m.now made.rows.items) }
+    {
+        let width = width_of(m.classes.list.as_slice());
+        let rows = rows_of(alloc, m, m.sets.lists.as_slice(), width)?;
+        Ok(ReadRows { rows })
+    }
+}
 
 /// For each of these sets a row of bits, of so many words: the classes of its members.
 pub fn rows_of(

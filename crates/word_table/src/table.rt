@@ -1,16 +1,18 @@
-ghost use Rattle.std.specs.Prelude.{◌≡◌, ℕ, List, [], ◌∷◌, IfOk};
+ghost use Rattle.std.specs.Prelude.{◌≡◌, ◌<◌, ◌^◌, ℕ, List, [], ◌∷◌, IfOk, length};
 ghost use Rattle.tac_ir.specs.declared.run.Entry.{Entry};
 ghost use Rattle.tac_ir.specs.declared.run.Op.{Op};
 ghost use Rattle.tac_ir.specs.Answers.{read_answer, write_answer};
 ghost use Rattle.tac_ir.specs.Module.{Module};
 ghost use Rattle.word_table.specs.Tables.{CanRun};
 ghost use Rattle.word_table.specs.Holds.{HoldsAfter};
+ghost use Rattle.word_table.specs.Stripes.{IsStripeOf};
 ghost use Rattle.word_table.specs.tools.Deciding.{found_by, decided, written};
 
 use crate::areas::{areas_of, classes_of, values_of};
 use crate::bits::Bits;
 use crate::classes::{class_of, is_checked};
 use crate::rows::{row_has, rows_of, width_of};
+use crate::stripe::StripeTable;
 use code_layout::shape_sizes;
 use dfi_base::{DefNo, Memory, ReadNo};
 use std::alloc::Global;
@@ -51,6 +53,15 @@ impl WordTable {
             classes,
             rows,
         })
+    }
+
+    /// The words of one stripe.
+    pub fn stripe(&self, alloc: Global, stripe: u32, stripes: u32) -> Result<StripeTable, Memory>
+        requires own { stripe < stripes }
+        requires few { (length self.now.values < 2 ^ 31) × (length self.now.classes < 2 ^ 31) }
+        ensures { IfOk result (λ t. IsStripeOf self.now.values self.now.classes stripe stripes t) }
+    {
+        StripeTable::of(alloc, &self.values, &self.classes, stripe, stripes)
     }
 
     /// The answer of a read: a class decides it as the last write and the set of the read do.
@@ -104,8 +115,8 @@ impl WordTable {
     }
 }
 
-// A read that finds this value and class.
-fn found_by(m: &Module, rows: &[Bits], read: u32, value: u32, class: u16) -> Answer
+/// A read that finds this value and class.
+pub fn found_by(m: &Module, rows: &[Bits], read: u32, value: u32, class: u16) -> Answer
     ensures { result ≡ found_by m.now rows.now read value class }
 {
     if is_checked(m, read) && !row_has(rows, read, class) {

@@ -22,7 +22,7 @@ use Rattle.c_types.specs.declared.known.Known.{Known}
 use Rattle.c_typed.specs.Types.{fits, place_of_type}
 use Rattle.c_types.specs.tools.Tables.{looked}
 use Rattle.c_typed.specs.Faults.{unknown, mismatch, not_lvalue}
-use Rattle.c_typed.specs.Exprs.{made, untyped, Layer, Size, one_of, many_of, value_by_type, place_by_type, binary, int_prefix, plus, negation, pointed_at, address, item_at, struct_at, struct_behind, all_fit, called_type, asked, put_by, freed_by}
+use Rattle.c_typed.specs.Exprs.{made, untyped, Layer, Size, one_of, many_of, value_by_type, place_by_type, binary, int_prefix, plus, negation, pointed_at, address, item_at, struct_at, struct_behind, all_fit, called_type, asked, put_by, freed_by, no_value}
 use Rattle.c_types.specs.tools.Steps.{Found, ◌>>=◌, broken, kept}
 use Rattle.c_types.specs.tools.Outlines.{spelled, bound, means_malloc, type_name_walk}
 
@@ -132,12 +132,12 @@ size_or line None = broken mismatch line
 size_or line (Some s) = s
 
 abbrev pub new_by : ObjectType → Expr → ExprType → Option Expr
-new_by t n ExprType.Int = Some (made (ExprType.Pointer t) (Form-F.New t (Some n)))
-new_by t n ExprType.Unknown = Some (made (ExprType.Pointer t) (Form-F.New t (Some n)))
+new_by t n ExprType.Int = Some (made (ExprType.Pointer t) (Form-F.New 0 t (Some n)))
+new_by t n ExprType.Unknown = Some (made (ExprType.Pointer t) (Form-F.New 0 t (Some n)))
 new_by t n _ = None
 
 abbrev pub allocated_by : ObjectType → Option Expr → Option Expr
-allocated_by t None = Some (made (ExprType.Pointer t) (Form-F.New t None))
+allocated_by t None = Some (made (ExprType.Pointer t) (Form-F.New 0 t None))
 allocated_by t (Some n) = new_by t n n.typing
 
 abbrev pub allocation : Line → List Finding → Found Expr
@@ -157,11 +157,22 @@ abbrev pub freed_only : Option Expr → Option Expr
 freed_only None = None
 freed_only (Some e) = freed_by e e.typing
 
+-- what `putint` and `free` are asked for
+abbrev pub put_walk : Line → List Finding → Found Expr
+put_walk line fs = arguments fs >>= (λ es. kept mismatch line (put_only (only es)))
+
+abbrev pub free_walk : Line → List Finding → Found Expr
+free_walk line fs = arguments fs >>= (λ es. kept mismatch line (freed_only (only es)))
+
+-- they have no value
+abbrev pub unvalued : Found Expr → Found Expr
+unvalued r = r >>= (λ _. Ok no_value)
+
 abbrev pub spelled_call : Outline → Line → Spelling → Ident → List Finding → Found Expr
 spelled_call o line Spelling.GetInt f fs = arguments fs >>= (λ es. kept mismatch line (asked Form-F.GetInt es))
 spelled_call o line Spelling.Left f fs = arguments fs >>= (λ es. kept mismatch line (asked Form-F.Left es))
-spelled_call o line Spelling.PutInt f fs = arguments fs >>= (λ es. kept mismatch line (put_only (only es)))
-spelled_call o line Spelling.Free f fs = arguments fs >>= (λ es. kept mismatch line (freed_only (only es)))
+spelled_call o line Spelling.PutInt f fs = unvalued (put_walk line fs)
+spelled_call o line Spelling.Free f fs = unvalued (free_walk line fs)
 spelled_call o line Spelling.Malloc f fs = allocation line fs
 spelled_call o line Spelling.Main f fs = main_call (looked o.numbers f.name) f
 spelled_call o line Spelling.Other f fs = numbered_call o line (looked o.numbers f.name) f fs

@@ -1,6 +1,7 @@
 -- What the code finds of a statement, and what is known behind it, one case for each form. A tool of proof.
 use Rattle.std.specs.Prelude.{Bool, true, false, ◌&&◌, not, nat_le, List, map, length, Option, Some, None, Ok, Err}
 use Rattle.dfi_base.specs.declared.numbers.Line.{Line}
+use Rattle.c_ast.specs.declared.ident.Ident.{Ident}
 use Rattle.c_ast.specs.declared.expr.Expr.{Expr as SourceExpr}
 use Rattle.c_ast.specs.declared.stmt.AssignOp.{AssignOp}
 use Rattle.c_ast.specs.declared.stmt.Simple.{Simple}
@@ -16,12 +17,16 @@ use Rattle.c_typed.specs.declared.stmt.Condition.{Condition}
 use Rattle.c_typed.specs.declared.stmt.Stmt.{Stmt, roll-Stmt}
 use Rattle.c_typed.specs.declared.stmt.Stmt.TheOpen.{Stmt-F}
 use Rattle.c_types.specs.declared.outline.Outline.{Outline}
+use Rattle.c_types.specs.declared.outline.Spelling.{Spelling}
+use Rattle.c_types.specs.declared.scopes.Binding.{Binding}
 use Rattle.c_types.specs.declared.known.Known.{Known}
 use Rattle.c_types.specs.declared.known.Around.{Around}
 use Rattle.c_typed.specs.Faults.{mismatch, escape, branches}
 use Rattle.c_typed.specs.Stmts.{Layer, tested, assigned, counted, returns, empty}
 use Rattle.c_types.specs.tools.Steps.{Found, ◌>>=◌, broken, kept, unless_kept, each, one}
-use Rattle.c_types.specs.tools.ExprWalk.{expr_walk, value, place, call_walk}
+use Rattle.c_types.specs.tools.Outlines.{spelled, bound}
+use Rattle.c_types.specs.tools.ExprWalk as exprs
+use Rattle.c_types.specs.tools.ExprWalk.{Finding, expr_walk, value, place}
 use Rattle.c_types.specs.tools.DeclWalk.{local_decl_walk}
 use Rattle.c_types.specs.tools.KnownSteps.{entered, exited}
 
@@ -47,13 +52,35 @@ assign_walk o k line target op v =
 abbrev pub counted_walk : Outline → Known → Line → SourceExpr → (Expr → Layer) → Found Stmt
 counted_walk o k line target layer = place (expr_walk o k target) >>= (λ t. kept mismatch line (counted t (layer t)))
 
+-- A call: `putint` and `free` are statements of their own.
+abbrev pub put_walk : Line → List Finding → Found Stmt
+put_walk line fs = exprs.put_walk line fs >>= (λ e. Ok (roll-Stmt (Stmt-F.PutInt line e)))
+
+abbrev pub free_walk : Line → List Finding → Found Stmt
+free_walk line fs = exprs.free_walk line fs >>= (λ e. Ok (roll-Stmt (Stmt-F.Free line e)))
+
+abbrev pub unused_walk : Outline → Known → Ident → List Finding → Found Stmt
+unused_walk o k f fs = exprs.call_walk o k f.line f fs >>= (λ e. Ok (roll-Stmt (Stmt-F.Call f.line e)))
+
+abbrev pub spelled_walk : Outline → Known → Ident → List Finding → Spelling → Found Stmt
+spelled_walk o k f fs Spelling.PutInt = put_walk f.line fs
+spelled_walk o k f fs Spelling.Free = free_walk f.line fs
+spelled_walk o k f fs s = unused_walk o k f fs
+
+abbrev pub call_by : Outline → Known → Ident → List Finding → Option Binding → Found Stmt
+call_by o k f fs (Some b) = unused_walk o k f fs
+call_by o k f fs None = spelled_walk o k f fs (spelled o f.name)
+
+abbrev pub call_walk : Outline → Known → Ident → List Finding → Found Stmt
+call_walk o k f fs = call_by o k f fs (bound k f.name)
+
 abbrev pub simple_walk : Outline → Known → Simple → Found Stmt
 simple_walk o k (Simple.Assign line target op v) = assign_walk o k line target op v
 simple_walk o k (Simple.Increment line target) = counted_walk o k line target (λ t. Stmt-F.Increment line t)
 simple_walk o k (Simple.Decrement line target) = counted_walk o k line target (λ t. Stmt-F.Decrement line t)
 simple_walk o k (Simple.PreIncrement line target) = counted_walk o k line target (λ t. Stmt-F.Increment line t)
 simple_walk o k (Simple.PreDecrement line target) = counted_walk o k line target (λ t. Stmt-F.Decrement line t)
-simple_walk o k (Simple.Call f args) = call_walk o k f.line f (map (expr_walk o k) args) >>= (λ e. Ok (roll-Stmt (Stmt-F.Call f.line e)))
+simple_walk o k (Simple.Call f args) = call_walk o k f (map (expr_walk o k) args)
 
 abbrev pub value_there_walk : Outline → Known → Option SourceExpr → Found (Option Expr)
 value_there_walk o k None = Ok None

@@ -1,11 +1,11 @@
 -- Frames of two threads that live share no word.
-use Rattle.std.proofs.Common.{◌≡◌, ℕ, zero, suc, ◌+◌, ◌-◌, ◌*◌, ◌/◌, ◌%◌, ◌<◌, ◌≤◌, ◌⊎◌, inl, inr, ⊎_elim, List, [], ◌∷◌, length, Bool, true, false, refl, Option, Some, None, arith, sym, ◌∙◌, ap, subst}
+use Rattle.std.proofs.Common.{◌≡◌, ℕ, zero, suc, ◌+◌, ◌-◌, ◌*◌, ◌/◌, ◌%◌, ◌<◌, ◌≤◌, ◌⊎◌, inl, inr, ⊎_elim, List, [], ◌∷◌, refl, Option, Some, arith, sym, ◌∙◌, ap, subst}
 use Rattle.std.specs.Prelude.{ℤ, Contains}
 use Rattle.std.proofs.Math.Nat.{mul-div-le}
 use Rattle.dfi_base.specs.Names.{Below, Kin}
 use Rattle.dfi_base.specs.Names.Below.{itself, branch}
 use Rattle.dfi_base.specs.Names.Kin.{is_above, is_below, are_beside}
-use Rattle.dfi_base.proofs.Names.{kin, low_below}
+use Rattle.dfi_base.proofs.Names.{kin}
 use Rattle.tac_ir.specs.declared.code.Code.{Code}
 use Rattle.tac_ir.specs.declared.run.Entry.{Entry}
 use Rattle.tac_ir.specs.Module.{Module}

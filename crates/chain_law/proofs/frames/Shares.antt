@@ -24,7 +24,7 @@ use Rattle.tac_thread.specs.Answered.{answered, joined, IsReplyTo}
 use Rattle.tac_thread.specs.RunsOn.{RunsOn}
 use Rattle.tac_thread.specs.Begun.{root_of, branch_of}
 use Rattle.tac_thread.specs.Flat.{flat_meaning, with_frame, with_share}
-use Rattle.tac_thread.specs.Threads.{at_fork, is_waiting}
+use Rattle.tac_thread.specs.Threads.{at_fork}
 use Rattle.path_law.specs.Asked.{op_of, Tells}
 use Rattle.path_law.specs.Standing.{FlatLife}
 use Rattle.path_law.specs.Begins.{root_stack}
@@ -32,11 +32,11 @@ use Rattle.path_law.specs.Told.{IsTold}
 use Rattle.path_law.specs.InPlace.{FlatLives}
 use Rattle.path_law.specs.Alive.{AreShares}
 use Rattle.tree_law.specs.tools.Held.{HoldsOn}
-use Rattle.tree_law.specs.tools.Kept.{HoldsUnder, HoldsForked, IsKeptAlong}
+use Rattle.tree_law.specs.tools.Kept.{HoldsUnder, IsKeptAlong}
 use Rattle.tree_law.proofs.lives.Moving.{answered_moves}
 use Rattle.tree_law.proofs.lives.Placing.{Nothing}
 use Rattle.tree_law.proofs.trees.Along.{kept_along}
-use Rattle.chain_law.specs.RunTree.{IsAnswered, run_says, IsRunTree}
+use Rattle.chain_law.specs.RunTree.{run_says, IsRunTree}
 use Rattle.chain_law.specs.Frames.{IsStacked, branches_at, share_of, IsShareOf, AreShared}
 use Rattle.chain_law.proofs.frames.Stacked.{Fits, moves_stacked, runs_stacked, joined_stacked, begin_stacked}
 

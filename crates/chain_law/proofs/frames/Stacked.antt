@@ -1,5 +1,5 @@
 -- A life's frames stay one behind the other.
-use Rattle.std.proofs.Common.{◌≡◌, ℕ, zero, suc, ◌+◌, ◌-◌, ◌≤◌, ◌<◌, ◌⊎◌, inl, inr, ⊎_elim, List, [], ◌∷◌, Bool, true, false, refl, Option, Some, None, arith, sym, ◌∙◌, ap, subst}
+use Rattle.std.proofs.Common.{◌≡◌, ℕ, ◌+◌, ◌-◌, ◌≤◌, ⊎_elim, List, [], ◌∷◌, Bool, true, false, refl, Some, None, arith, sym, ap, subst}
 use Rattle.std.specs.Prelude.{nat_lt, if◌then◌else◌}
 use Rattle.std.proofs.lemmas.Bool.{ltb-false}
 use Rattle.tac_ir.specs.declared.code.Code.{Code}
@@ -15,7 +15,7 @@ use Rattle.tac_thread.specs.Answered.{joined}
 use Rattle.tac_thread.specs.Flat.{flat_meaning, with_frame}
 use Rattle.tac_thread.specs.Threads.{is_waiting}
 use Rattle.path_law.specs.Standing.{FlatActivation, FlatLife}
-use Rattle.tree_law.specs.Moves.{IsPlain, IsOnward, GoesOn, Moves}
+use Rattle.tree_law.specs.Moves.{IsPlain, IsOnward, Moves}
 use Rattle.tree_law.specs.Moves.Moves.{goes_on, to_enter, enters_now, enters, leaves, stays}
 use Rattle.tree_law.proofs.lives.Silent.{runs_keep, joined_is}
 use Rattle.tree_law.proofs.lives.Placing.{ready_plain}

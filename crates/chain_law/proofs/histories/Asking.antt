@@ -1,49 +1,30 @@
 -- What an entry of a run tells the life of its thread.
-use Rattle.std.proofs.Common.{◌≡◌, ℕ, zero, suc, ◌+◌, ◌-◌, ◌*◌, ◌/◌, ◌%◌, ◌<◌, ◌≤◌, ◌⊎◌, inl, inr, Bool, true, false, List, [], ◌∷◌, ◌++◌, length, refl, sym, ap, ◌∙◌, subst, arith, Option, Some, None, ⊎_elim}
+use Rattle.std.proofs.Common.{◌≡◌, ℕ, zero, suc, ◌+◌, ◌-◌, ◌*◌, ◌/◌, ◌≤◌, ◌⊎◌, inl, inr, Bool, true, false, List, [], ◌∷◌, length, refl, sym, ap, ◌∙◌, subst, arith, Option, Some, None}
 use Rattle.std.specs.Prelude.{ℤ, IsTrue, slice_get, nat_le, nat_lt, nat_eq, if◌then◌else◌}
 use Rattle.std.proofs.lemmas.Bool.{leb-true, eqb-true}
-use Rattle.dfi_base.specs.Lives.{IsNext}
 use Rattle.tac_ir.specs.declared.code.Code.{Code}
-use Rattle.tac_ir.specs.declared.code.Instr.{Instr}
 use Rattle.tac_ir.specs.declared.run.Op.{Op}
 use Rattle.tac_ir.specs.declared.run.Answer.{Answer}
 use Rattle.tac_ir.specs.declared.run.Stop.{Stop}
 use Rattle.tac_ir.specs.declared.run.Entry.{Entry}
 use Rattle.tac_ir.specs.Module.{Module}
-use Rattle.tac_ir.specs.GoodForm.{GoodForm}
-use Rattle.tac_ir.specs.Path.{Start, stops}
+use Rattle.tac_ir.specs.Path.{stops}
 use Rattle.tac_ir.specs.Layout.{frame_words}
 use Rattle.tac_ir.specs.Answers.{IsAnswer, call_answer, fork_answer, depth_of}
-use Rattle.tac_ir.specs.Threads.{Want, threads_of}
-use Rattle.tac_ir.specs.CoreRun.{GoesOn, Follows, IsHistory}
-use Rattle.tac_ir.proofs.Living.{wanted_one}
 use Rattle.tac_thread.specs.declared.flat.FlatStack.{FlatStack}
-use Rattle.tac_thread.specs.declared.guest.Stage.{Stage}
 use Rattle.tac_thread.specs.declared.want.ReplyOf.{ReplyOf}
-use Rattle.tac_thread.specs.declared.want.Want
-use Rattle.tac_thread.specs.Life.{instr_of}
-use Rattle.tac_thread.specs.Doing.{want_of}
-use Rattle.tac_thread.specs.Answered.{IsReplyTo, answered}
+use Rattle.tac_thread.specs.Answered.{IsReplyTo}
 use Rattle.tac_thread.specs.Flat.{flat_meaning, with_frame, with_share}
-use Rattle.tac_thread.specs.Threads.{IsTree, IsFed, IsForked, Takes, TakesStacks, running, want_of_life, next_in, is_waiting, IsRunnable}
-use Rattle.tac_thread.proofs.Trees.{running_is}
-use Rattle.tac_thread.proofs.Forking.{few_branches, no_zero}
-use Rattle.path_law.specs.Asked.{op_of, Tells}
-use Rattle.path_law.specs.Standing.{FlatLife, point_of}
-use Rattle.path_law.specs.Begins.{root_stack}
-use Rattle.path_law.specs.Wants.{room_in, next_of}
+use Rattle.path_law.specs.Asked.{Tells}
+use Rattle.path_law.specs.Standing.{FlatLife}
+use Rattle.path_law.specs.Wants.{room_in}
 use Rattle.path_law.specs.Fits.{answer_by}
 use Rattle.path_law.specs.Told.{IsTold}
-use Rattle.path_law.specs.Runs.{Runs}
-use Rattle.path_law.specs.InPlace.{FlatLives}
-use Rattle.path_law.specs.Alive.{AreAlive, AreShares, IsNextTold}
-use Rattle.path_law.proofs.TreeLaws.{next_event, same_runnable}
-use Rattle.path_law.proofs.Grown.{tree_begins, tree_fed}
-use Rattle.path_law.proofs.Forks.{tree_forked}
-use Rattle.path_law.proofs.Fitting.{calls_fit, forks_fit}
-use Rattle.path_law.proofs.Begins.{shared, forking}
+use Rattle.path_law.specs.Alive.{AreShares}
+use Rattle.path_law.proofs.Fitting.{calls_fit}
 use Rattle.chain_law.specs.RunTree.{IsAsked}
-use Rattle.chain_law.proofs.histories.Telling.{reply_to, takes_no_stack, told_of, telling, wants_call, wants_fork}
+use Rattle.path_law.specs.Replies.{reply_to, takes_no_stack}
+use Rattle.path_law.proofs.Telling.{told_of, telling, wants_call, wants_fork}
 
 pub le_true : (a b : ℕ) → a ≤ b → nat_le a b ≡ true
 le_true a b h = grind (arith, nat_le)

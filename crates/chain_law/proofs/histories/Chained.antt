@@ -1,53 +1,39 @@
 -- Each history of a module of good form has the chain of trees.
-use Rattle.std.proofs.Common.{◌≡◌, ℕ, zero, suc, ◌+◌, ◌-◌, ◌*◌, ◌/◌, ◌%◌, ◌<◌, ◌≤◌, ◌⊎◌, inl, inr, Bool, true, false, List, [], ◌∷◌, ◌++◌, length, refl, sym, ap, ◌∙◌, subst, arith, Option, Some, None, ⊎_elim}
-use Rattle.std.specs.Prelude.{ℤ, IsTrue, slice_get, nat_le, nat_lt, nat_eq, if◌then◌else◌}
-use Rattle.std.proofs.lemmas.Bool.{leb-true, eqb-true}
+use Rattle.std.proofs.Common.{◌≡◌, ℕ, suc, ◌+◌, ◌/◌, inl, inr, Bool, true, false, List, [], ◌∷◌, length, refl, sym, ap, ◌∙◌, subst, arith, Option, Some}
+use Rattle.std.specs.Prelude.{ℤ, IsTrue, slice_get, nat_le}
+use Rattle.std.proofs.lemmas.Bool.{leb-true}
 use Rattle.dfi_base.specs.Lives
 use Rattle.dfi_base.specs.Lives.{IsNext}
-use Rattle.tac_ir.specs.declared.code.Code.{Code}
-use Rattle.tac_ir.specs.declared.code.Instr.{Instr}
 use Rattle.tac_ir.specs.declared.run.Op.{Op}
-use Rattle.tac_ir.specs.declared.run.Answer.{Answer}
-use Rattle.tac_ir.specs.declared.run.Stop.{Stop}
 use Rattle.tac_ir.specs.declared.run.Entry.{Entry}
 use Rattle.tac_ir.specs.Module.{Module}
 use Rattle.tac_ir.specs.GoodForm.{GoodForm}
-use Rattle.tac_ir.specs.Path.{Start, stops}
+use Rattle.tac_ir.specs.Path.{stops}
 use Rattle.tac_ir.specs.Layout.{frame_words}
-use Rattle.tac_ir.specs.Answers.{IsAnswer, call_answer, fork_answer, depth_of}
+use Rattle.tac_ir.specs.Answers.{IsAnswer}
 use Rattle.tac_ir.specs.Threads.{Want, threads_of}
 use Rattle.tac_ir.specs.CoreRun.{GoesOn, Follows, IsHistory}
 use Rattle.tac_ir.proofs.Living.{wanted_one}
 use Rattle.tac_thread.specs.declared.flat.FlatStack.{FlatStack}
-use Rattle.tac_thread.specs.declared.guest.Stage.{Stage}
 use Rattle.tac_thread.specs.declared.want.ReplyOf.{ReplyOf}
-use Rattle.tac_thread.specs.declared.want.Want
-use Rattle.tac_thread.specs.Life.{instr_of}
-use Rattle.tac_thread.specs.Doing.{want_of}
-use Rattle.tac_thread.specs.Answered.{IsReplyTo, answered}
-use Rattle.tac_thread.specs.Flat.{flat_meaning, with_frame, with_share}
-use Rattle.tac_thread.specs.Threads.{IsTree, IsFed, IsForked, Takes, TakesStacks, running, want_of_life, next_in, is_waiting, IsRunnable}
+use Rattle.tac_thread.specs.Flat.{flat_meaning}
+use Rattle.tac_thread.specs.Threads.{running, want_of_life, IsRunnable}
 use Rattle.tac_thread.proofs.Trees.{running_is}
-use Rattle.tac_thread.proofs.Forking.{few_branches, no_zero}
-use Rattle.path_law.specs.Asked.{op_of, Tells}
-use Rattle.path_law.specs.Standing.{FlatLife, point_of}
+use Rattle.path_law.specs.Asked.{op_of}
+use Rattle.path_law.specs.Standing.{FlatLife}
 use Rattle.path_law.specs.Begins.{root_stack}
 use Rattle.path_law.specs.Wants.{room_in, next_of}
-use Rattle.path_law.specs.Fits.{answer_by}
-use Rattle.path_law.specs.Told.{IsTold}
-use Rattle.path_law.specs.Runs.{Runs}
 use Rattle.path_law.specs.InPlace.{FlatLives}
-use Rattle.path_law.specs.Alive.{AreAlive, AreShares, IsNextTold}
+use Rattle.path_law.specs.Alive.{AreAlive, AreShares}
 use Rattle.path_law.proofs.TreeLaws.{next_event, same_runnable}
 use Rattle.path_law.proofs.Grown.{tree_begins, tree_fed}
 use Rattle.path_law.proofs.Forks.{tree_forked}
-use Rattle.path_law.proofs.Fitting.{calls_fit, forks_fit}
-use Rattle.path_law.proofs.Begins.{shared, forking}
+use Rattle.path_law.proofs.Begins.{shared}
 use Rattle.tree_law.specs.Growing.{Does, Grows}
 use Rattle.tree_law.specs.Growing.Does.{tells, splits, ends}
 use Rattle.tree_law.proofs.trees.Growing.{grows}
-use Rattle.chain_law.specs.RunTree.{IsAsked, IsAnswered, IsHalted, run_says, AreLastBy, AreLast, IsChained}
-use Rattle.chain_law.proofs.histories.Telling.{takes_no_stack, wants_fork}
+use Rattle.chain_law.specs.RunTree.{IsAsked, IsAnswered, run_says, AreLastBy, AreLast, IsChained}
+use Rattle.path_law.proofs.Telling.{wants_fork}
 use Rattle.chain_law.proofs.histories.Asking.{le_true, IsToldBy, IsForkedBy, takes_stack, kind_of, plain_told, call_told, fork_told}
 
 -- The thread of an entry runs in the tree, and the entry is what its life wants.

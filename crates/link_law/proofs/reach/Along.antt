@@ -26,7 +26,7 @@ use Rattle.tree_law.specs.tools.Held.{AreHeld, HoldsOn}
 use Rattle.tree_law.specs.tools.Kept.{HoldsUnder, IsKeptAlong}
 use Rattle.tree_law.proofs.lives.Edges.{fork_edge, regions_count}
 use Rattle.tree_law.proofs.lives.Placing.{runs_placed, joined_placed, answered_placed, root_placed, branch_placed}
-use Rattle.tree_law.proofs.lives.Silent.{runs_awake}
+use Rattle.tree_law.proofs.trees.Waking.{runs_awake}
 use Rattle.tree_law.proofs.trees.Along.{kept_along}
 use Rattle.tree_law.proofs.trees.Ancestors.{HaveParents}
 use Rattle.tree_law.proofs.trees.Changed.{some_at}
@@ -58,7 +58,7 @@ rested {V} {S} m R c good p q waits on i = by (instr_of c p.top) refl on
         absurd (none join entries (sym is ∙ ap (λ (z : Life V S). instr_of c z.top) (sym same) ∙ fork))
 
     by : (j : Instr) → instr_of c p.top ≡ j → RunsOn m c (joined_at p j) q → IsReachedAt R c q i
-    by (Instr.Fork join entries) is z = no_waiting R c q i (runs_awake m c good (joined_at p (Instr.Fork join entries)) q refl z)
+    by (Instr.Fork join entries) is z = no_waiting R c q i (runs_awake m c (joined_at p (Instr.Fork join entries)) q refl z)
     by j is z = stays j is (λ join entries e. cc) z
 
 module _ {V S : Type 0} (m : Meaning V S) (R : Point → ℕ → ℕ → Type 0) (c : Code) (good : GoodForm c) (closed : IsLinkClosed c R) where

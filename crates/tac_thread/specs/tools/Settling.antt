@@ -7,7 +7,7 @@ use Rattle.tac_thread.specs.Life.{Life}
 use Rattle.tac_thread.specs.Answered.{answered, joined}
 use Rattle.tac_thread.specs.RunsOn.{RunsOn}
 use Rattle.tac_thread.specs.Guests.{IsGuestOf}
-use Rattle.tac_thread.specs.Threads.{Lives, is_waiting, HasBranch, changed, ended_of, AreGuests, Settles, AreBranches, planted}
+use Rattle.tac_thread.specs.Threads.{Lives, is_waiting, HasBranch, changed, IsSettling, Settles, AreBranches, planted}
 
 -- thread n took an answer and ran on, and no other changed
 pub record IsStepped {V S : Type 0} (m : Meaning V S) (c : Code) (f : Lives V S) (n : ℕ) (reply : ReplyOf V S) (g : Lives V S) : Type 0 where
@@ -17,11 +17,6 @@ pub record IsStepped {V S : Type 0} (m : Meaning V S) (c : Code) (f : Lives V S)
   pub runs : RunsOn m c (answered m c life reply) next
   pub guest : IsGuestOf m c next
   pub changes : (k : ℕ) → g k ≡ changed f n (Some next) k
-
--- no thread but n may have ended
-pub record IsSettling {V S : Type 0} (m : Meaning V S) (c : Code) (n : ℕ) (f : Lives V S) : Type 0 where
-  pub threads : AreGuests m c f
-  pub going : (k : ℕ) → (k ≡ n → ⊥) → ended_of m c (f k) ≡ None
 
 abbrev pub IsWaiting : {V S : Type 0} → Meaning V S → Code → Option (Life V S) → Type 0
 IsWaiting {V} {S} m c l = (p : Life V S) × (l ≡ Some p) × (is_waiting p.stage ≡ true) × IsGuestOf m c p

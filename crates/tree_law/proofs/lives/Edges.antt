@@ -1,7 +1,7 @@
 -- Where edges lead, and that there is an instruction.
-use Rattle.std.proofs.Common.{◌≡◌, ℕ, zero, suc, ◌+◌, ◌-◌, ◌≤◌, ◌<◌, List, [], ◌∷◌, ◌++◌, length, Bool, true, false, refl, Option, Some, None, arith, sym, ◌∙◌, ap, subst}
-use Rattle.std.specs.Prelude.{nat_eq, nat_le, slice_get, Contains}
-use Rattle.std.proofs.lemmas.Bool.{eqb-true, eq-eqb, leb-true, leb-false}
+use Rattle.std.proofs.Common.{◌≡◌, ℕ, zero, suc, ◌+◌, ◌-◌, ◌<◌, List, [], ◌∷◌, ◌++◌, length, Bool, true, false, refl, Option, Some, None, arith, sym, ◌∙◌, ap, subst}
+use Rattle.std.specs.Prelude.{nat_le, slice_get, Contains}
+use Rattle.std.proofs.lemmas.Bool.{leb-true, leb-false}
 use Rattle.std.proofs.lemmas.Option.{slice_get_within}
 use Rattle.std.proofs.lemmas.List.Elements.{Contains-append_left, Contains-append_right}
 use Rattle.dfi_base.specs.declared.numbers.Point.{Point}
@@ -12,7 +12,7 @@ use Rattle.tac_ir.specs.declared.code.Lined.{Lined}
 use Rattle.tac_ir.specs.Layout.{lines_of}
 use Rattle.tac_ir.specs.Edges.{calls_fun, after_calls, all_after_calls, points_in, edges_of}
 use Rattle.tac_ir.specs.Regions.{Region, regions_of}
-use Rattle.tac_ir.specs.GoodForm.{GoodForm, IsGoodCode, IsLastKind, targets_of, fork_targets_of, all_targets_of}
+use Rattle.tac_ir.specs.GoodForm.{GoodForm, IsLastKind, targets_of, fork_targets_of, all_targets_of}
 use Rattle.tac_thread.specs.tools.Fetched.{instr_in}
 use Rattle.tac_ir.proofs.regions.Outside.{front_is, same_line}
 use Rattle.tac_ir.proofs.regions.Nested.{one_of}

@@ -1,5 +1,5 @@
 -- Where an instruction leads: the next index, a jump's target, a join and an entry keep the number of a region.
-use Rattle.std.proofs.Common.{◌≡◌, ℕ, zero, suc, ◌+◌, ◌≤◌, ◌<◌, List, [], ◌∷◌, length, Bool, true, false, refl, Option, Some, None, arith, sym, ◌∙◌, ap, subst}
+use Rattle.std.proofs.Common.{◌≡◌, ℕ, ◌+◌, List, [], Bool, true, false, refl, Option, Some, None, sym, ◌∙◌, ap, subst}
 use Rattle.std.specs.Prelude.{nat_eq, slice_get}
 use Rattle.std.proofs.lemmas.Bool.{eqb-true}
 use Rattle.tac_ir.specs.declared.code.Code.{Code}
@@ -17,7 +17,7 @@ use Rattle.tac_thread.specs.Meaning.{Meaning, divides_by_zero}
 use Rattle.tac_thread.specs.tools.Fetched.{instr_in}
 use Rattle.tac_thread.specs.Life.{temp}
 use Rattle.tac_thread.specs.Doing.{given, divided, tested, leaves, doing}
-use Rattle.tac_thread.specs.Answered.{named_call, resumed_at, back_at, target_of}
+use Rattle.tac_thread.specs.Answered.{named_call, back_at, target_of}
 use Rattle.tree_law.specs.Placed.{region_of}
 use Rattle.tac_ir.proofs.regions.Counted.{none_if}
 use Rattle.tac_ir.proofs.regions.Outside.{start_outside}

@@ -1,6 +1,5 @@
 -- What an answer does to a life, read off all instructions once.
-use Rattle.std.proofs.Common.{◌≡◌, ℕ, zero, suc, ◌+◌, ◌⊎◌, inl, inr, List, [], ◌∷◌, Bool, true, false, refl, Option, Some, None, arith, sym, ◌∙◌, ap, subst}
-use Rattle.std.specs.Prelude.{slice_get}
+use Rattle.std.proofs.Common.{◌≡◌, ℕ, ◌+◌, inl, inr, List, [], ◌∷◌, true, false, refl, Option, Some, None, sym, ◌∙◌, ap, subst}
 use Rattle.std.proofs.lemmas.Bool.{eq-eqb}
 use Rattle.tac_ir.specs.declared.code.Code.{Code}
 use Rattle.tac_ir.specs.declared.code.Instr.{Instr}
@@ -13,13 +12,13 @@ use Rattle.tac_thread.specs.declared.guest.Stage.{Stage}
 use Rattle.tac_thread.specs.declared.want.ReplyOf.{ReplyOf}
 use Rattle.tac_thread.specs.Meaning.{Meaning}
 use Rattle.tac_thread.specs.tools.Fetched.{instr_in}
-use Rattle.tac_thread.specs.Life.{Life, instr_of, temp, with_temp, at_index, with_top, with_stage}
+use Rattle.tac_thread.specs.Life.{Life, instr_of, temp, with_temp, at_index, with_stage}
 use Rattle.tac_thread.specs.Answered
 use Rattle.tac_thread.specs.Answered.{answered, answered_first, back_at, behind_call, resumed, called, calls, entered, returned, returns, next_with, next_of, target_of, with_none, with_value, with_stack}
 use Rattle.tree_law.specs.Placed.{region_of}
-use Rattle.tree_law.specs.Moves.{IsPlain, IsOnward, GoesOn, IsCallee, link_in, IsLeft, Moves}
+use Rattle.tree_law.specs.Moves.{IsOnward, IsCallee, link_in, Moves}
 use Rattle.tree_law.proofs.lives.Lines.{good_code, IsThere, there, behind, is_passed, enters_at, target_passed, back_region}
-use Rattle.tree_law.proofs.lives.Silent.{onward, stand_still, passes}
+use Rattle.tree_law.proofs.lives.Silent.{stand_still, passes}
 use Rattle.tree_law.proofs.lives.Edges.{is_call, next_line, entry_line}
 
 behind_called : {V S : Type 0} → (c : Code) → GoodForm c → (y : Activation V S) (at : ℕ) (v : V) → region_in (lines_of c y.fun) at ≡ region_of c y → IsOnward c y (behind_call y at v (instr_in (lines_of c y.fun) at))

@@ -1,5 +1,5 @@
 -- Lives keep their regions, whatever they are answered and whatever a link said.
-use Rattle.std.proofs.Common.{◌≡◌, ℕ, zero, suc, ◌+◌, ◌-◌, ◌*◌, ◌/◌, ◌%◌, ◌<◌, ◌≤◌, ◌⊎◌, inl, inr, ⊎_elim, List, [], ◌∷◌, length, Bool, true, false, refl, Option, Some, None, arith, sym, ◌∙◌, ap, subst}
+use Rattle.std.proofs.Common.{◌≡◌, ℕ, suc, ◌+◌, ◌-◌, ⊎_elim, List, [], ◌∷◌, length, true, refl, Option, Some, None, arith, sym, ◌∙◌, ap, subst}
 use Rattle.std.specs.Prelude.{slice_get}
 use Rattle.std.proofs.lemmas.Option.{slice_get_within}
 use Rattle.tac_ir.specs.declared.code.Code.{Code}
@@ -18,17 +18,16 @@ use Rattle.tac_thread.specs.Answered.{answered, joined}
 use Rattle.tac_thread.specs.RunsOn.{RunsOn}
 use Rattle.tac_thread.specs.Begun.{root_of, branch_of, entry_of}
 use Rattle.tac_thread.specs.Threads.{Lives, at_fork, is_waiting}
-use Rattle.tree_law.specs.Placed.{region_of, HasLine, AreStanding, EntersWell, IsPlaced, IsBranchOf, ArePlaced}
-use Rattle.tree_law.specs.Moves.{IsPlain, IsOnward, GoesOn, IsLeft, Moves}
+use Rattle.tree_law.specs.Placed.{AreStanding, EntersWell, IsPlaced, IsBranchOf, ArePlaced}
+use Rattle.tree_law.specs.Moves.{IsPlain, IsOnward, GoesOn, Moves}
 use Rattle.tree_law.specs.Moves.Moves.{goes_on, to_enter, enters_now, enters, leaves, stays}
 use Rattle.tree_law.specs.Chain.{Saying, IsTreeAfter}
-use Rattle.tree_law.specs.tools.Held.{AreHeld, HoldsOn}
-use Rattle.tree_law.specs.tools.Kept.{HoldsUnder, HoldsForked, IsKeptAlong}
-use Rattle.tac_ir.proofs.regions.Counted.{HasEntry}
+use Rattle.tree_law.specs.tools.Held.{HoldsOn}
+use Rattle.tree_law.specs.tools.Kept.{HoldsUnder, IsKeptAlong}
 use Rattle.tac_ir.proofs.regions.Leads.{entry_own}
 use Rattle.tree_law.proofs.lives.Edges.{entry_line, branch_line}
 use Rattle.tree_law.proofs.lives.Lines.{good_code, IsThere, there, enters_at}
-use Rattle.tree_law.proofs.lives.Silent.{runs_keep, IsJoined, joined_is}
+use Rattle.tree_law.proofs.lives.Silent.{runs_keep, joined_is}
 use Rattle.tree_law.proofs.lives.Moving.{answered_moves}
 use Rattle.tree_law.proofs.trees.Changed.{some_at}
 use Rattle.tree_law.proofs.trees.Along.{kept_along}

@@ -1,5 +1,5 @@
 -- What a life does between two events.
-use Rattle.std.proofs.Common.{◌≡◌, ℕ, zero, suc, ◌+◌, ◌⊎◌, inl, inr, List, [], ◌∷◌, Bool, true, false, refl, Option, Some, None, arith, sym, ◌∙◌, ap, subst}
+use Rattle.std.proofs.Common.{◌≡◌, ℕ, ◌+◌, ◌⊎◌, inl, inr, true, false, refl, Some, sym, ◌∙◌, ap, subst}
 use Rattle.std.specs.Prelude.{slice_get, Contains}
 use Rattle.dfi_base.specs.declared.numbers.Point.{Point}
 use Rattle.tac_ir.specs.declared.code.Code.{Code}
@@ -17,9 +17,8 @@ use Rattle.tac_thread.specs.Life.{Life, instr_of, with_temp, at_index, with_top}
 use Rattle.tac_thread.specs.Doing.{doing, done, silent_at, silent_next}
 use Rattle.tac_thread.specs.RunsOn.{RunsOn}
 use Rattle.tac_thread.specs.Answered.{joined, joined_at}
-use Rattle.tac_thread.specs.Threads.{point_of, is_waiting}
-use Rattle.tree_law.specs.Placed.{region_of, HasLine}
-use Rattle.tree_law.specs.Moves.{IsPlain, IsOnward, GoesOn}
+use Rattle.tac_thread.specs.Threads.{point_of}
+use Rattle.tree_law.specs.Moves.{IsOnward, GoesOn}
 use Rattle.tree_law.proofs.lives.Lines.{is_passed, is_jump, behind, jumped, joins_at, leads, Leads}
 use Rattle.tree_law.proofs.lives.Edges.{is_call, next_edge, jump_edge, next_line, jump_line, join_line}
 
@@ -93,16 +92,6 @@ silent_goes {V} {S} m c good l k is = by l.stage is
 pub runs_keep : {V S : Type 0} → (m : Meaning V S) (c : Code) → GoodForm c → (P : Life V S → Type 0) → ((l k : Life V S) → GoesOn c l k → P l → P k) → (l k : Life V S) → P l → RunsOn m c l k → P k
 runs_keep m c good P keep l k p (RunsOn.rests one rest) = p
 runs_keep m c good P keep l k p (RunsOn.runs first next last step on) = runs_keep m c good P keep next k (keep l next (silent_goes m c good l next step) p) on
-
-ready_awake : {V S : Type 0} → (s : Stage V S) → s ≡ Stage.Ready → is_waiting s ≡ false
-ready_awake Stage.Ready is = refl
-ready_awake (Stage.Entering callee) is = cc
-ready_awake (Stage.Leaving link) is = cc
-ready_awake Stage.Waiting is = cc
-
--- who runs on does not wait
-pub runs_awake : {V S : Type 0} → (m : Meaning V S) (c : Code) → GoodForm c → (l k : Life V S) → is_waiting l.stage ≡ false → RunsOn m c l k → is_waiting k.stage ≡ false
-runs_awake m c good l k awake on = runs_keep m c good (λ z. is_waiting z.stage ≡ false) (λ a b goes was. ready_awake b.stage goes.stage) l k awake on
 
 -- A life that goes on behind its fork stands at the join, in its function, frame and region.
 pub record IsJoined {V S : Type 0} (c : Code) (l k : Life V S) : Type 0 where

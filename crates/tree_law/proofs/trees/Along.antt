@@ -1,5 +1,5 @@
 -- What each entry keeps holds along the chain of trees.
-use Rattle.std.proofs.Common.{◌≡◌, ℕ, zero, suc, ◌+◌, ◌*◌, ◌/◌, ◌%◌, ◌≤◌, ◌<◌, ◌⊎◌, inl, inr, ⊎_elim, List, [], ◌∷◌, length, Bool, true, false, refl, Option, Some, None, arith, sym, ◌∙◌, ap, subst}
+use Rattle.std.proofs.Common.{◌≡◌, ℕ, suc, ◌+◌, ◌*◌, ◌/◌, ⊎_elim, List, true, false, refl, Option, Some, None, arith, sym, ◌∙◌, ap, subst}
 use Rattle.std.specs.Prelude.{slice_get}
 use Rattle.std.proofs.lemmas.Bool.{cases_eq}
 use Rattle.std.proofs.lemmas.Option.{slice_get_within}
@@ -15,10 +15,10 @@ use Rattle.tac_thread.proofs.Forking.{no_zero}
 use Rattle.tree_law.specs.Chain.{Saying, IsTreeAfter}
 use Rattle.tree_law.specs.Chain.IsTreeAfter.{begins, feeds, forks, halts, sticks}
 use Rattle.tree_law.specs.tools.Held.{AreHeld, HoldsOn}
-use Rattle.tree_law.specs.tools.Kept.{HoldsUnder, HoldsForked, IsKeptAlong}
+use Rattle.tree_law.specs.tools.Kept.{HoldsForked, IsKeptAlong}
 use Rattle.tree_law.proofs.trees.Changed.{some_at}
 use Rattle.tree_law.proofs.trees.Keeping.{settles_hold, fed_holds, forked_holds, replaced}
-use Rattle.tree_law.proofs.lives.Silent.{runs_awake}
+use Rattle.tree_law.proofs.trees.Waking.{runs_awake}
 
 -- the last tree of a chain is a tree
 pub tree_of : {V S E : Type 0} (m : Meaning V S) (c : Code) (s : S) (say : Saying V S E) (h : List E) (f : Lives V S) (d : Option V) → IsTreeAfter m c s say h f d → IsTree m c f
@@ -60,7 +60,7 @@ begun_holds {V} {S} m c R B E good rule s g e b first =
     settles_hold m c R B E rule 1 b.lives g None e (b.changes 0 ∙ changed_other nobody 1 (Some b.root) 0 (λ z. omega (arith, z))) b.settles (record {
       root = λ l lives. subst R (is_root 1 l lives).1 (rule.root_runs (root_of m c s) b.root first b.runs);
       branches = λ n p l low other lives parent. absurd (other (is_root n l lives).0);
-      ended = λ n p i some low high lives none. rule.awake p i (subst (λ (z : Life V S). is_waiting z.stage ≡ false) (is_root n p lives).1 (runs_awake m c good (root_of m c s) b.root refl b.runs));
+      ended = λ n p i some low high lives none. rule.awake p i (subst (λ (z : Life V S). is_waiting z.stage ≡ false) (is_root n p lives).1 (runs_awake m c (root_of m c s) b.root refl b.runs));
       named = λ n l lives other. absurd (other (is_root n l lives).0);
     })
   where
@@ -81,7 +81,7 @@ module _ {V S F : Type 0} (m : Meaning V S) (c : Code) (good : GoodForm c) (s : 
       let keeps = kept.answers old e n fed.life reply told awake moved in
       fed_holds m c R B E kept.rule n f g d b reply (nobody_zero m c f was) (no_zero m c f n fed.life was.threads fed.lived) fed (no_branches f was.threads.parents n fed.life fed.lived awake)
       (record { root = keeps.root; branch = keeps.branch; ended = λ i. kept.rule.awake (answered m c fed.life reply) i moved })
-      (λ i. kept.rule.awake fed.next i (runs_awake m c good (answered m c fed.life reply) fed.next moved fed.runs)) (kept_along old f d chain)
+      (λ i. kept.rule.awake fed.next i (runs_awake m c (answered m c fed.life reply) fed.next moved fed.runs)) (kept_along old f d chain)
   kept_along h g b (forks old e n stacks f g2 d b2 chain tree forked awake told shares some join entries is count few) =
       let was = tree_of m c s say old f d chain in
       let keeps = kept.forks old e n forked.life stacks told shares awake join entries is count few in
@@ -95,7 +95,7 @@ module _ {V S F : Type 0} (m : Meaning V S) (c : Code) (good : GoodForm c) (s : 
       begin keeps i b listed = (let t = stack_at i b listed in keeps.begins i t.0 b t.1 (forked.begin.each i t.0 b t.1 listed))
 
       fresh : (i j : ℕ) (b : Life V S) → slice_get forked.branches i ≡ Some b → E b j
-      fresh i j b listed = (let t = stack_at i b listed in kept.rule.awake b j (runs_awake m c good (branch_of m c forked.life (i + 1) t.0) b refl (forked.begin.each i t.0 b t.1 listed)))
+      fresh i j b listed = (let t = stack_at i b listed in kept.rule.awake b j (runs_awake m c (branch_of m c forked.life (i + 1) t.0) b refl (forked.begin.each i t.0 b t.1 listed)))
   kept_along h f d (halts old e n l f2 d2 chain lives awake stopped) = kept_along old f d chain
   kept_along h g b (sticks old e n f g2 d b2 chain tree stuck awake stays) =
       let was = tree_of m c s say old f d chain in

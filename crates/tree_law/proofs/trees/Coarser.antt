@@ -1,5 +1,5 @@
 -- A chain whose entries say less.
-use Rattle.std.proofs.Common.{◌≡◌, ℕ, List, Option}
+use Rattle.std.proofs.Common.{List, Option}
 use Rattle.tac_ir.specs.declared.code.Code.{Code}
 use Rattle.tac_thread.specs.declared.want.ReplyOf.{ReplyOf}
 use Rattle.tac_thread.specs.Meaning.{Meaning}

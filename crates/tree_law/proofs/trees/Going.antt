@@ -1,15 +1,11 @@
 -- A tree can always go on: silent instructions come to rest, threads settle, forks have their branches.
-use Rattle.std.proofs.Common.{◌≡◌, ℕ, zero, suc, ◌+◌, ◌*◌, ◌/◌, ◌%◌, ◌<◌, ◌≤◌, ◌⊎◌, inl, inr, Bool, true, false, List, [], ◌∷◌, length, refl, sym, ap, ◌∙◌, subst, arith, Option, Some, None, cond, ⊎_elim}
+use Rattle.std.proofs.Common.{◌≡◌, ℕ, zero, suc, ◌+◌, ◌*◌, ◌/◌, ◌<◌, ◌≤◌, ◌⊎◌, inl, inr, false, List, [], ◌∷◌, length, refl, sym, ap, ◌∙◌, subst, arith, Option, Some, None, ⊎_elim}
 use Rattle.std.specs.Prelude.{IsTrue, slice_get, nat_le}
 use Rattle.std.proofs.lemmas.Bool.{cases_eq}
-use Rattle.std.proofs.lemmas.Option.{slice_get_within}
 use Rattle.std.proofs.Math.ListN.{length-set}
 use Rattle.tac_ir.specs.declared.code.Code.{Code}
 use Rattle.tac_ir.specs.declared.code.Instr.{Instr}
 use Rattle.tac_ir.specs.GoodForm.{GoodForm}
-use Rattle.tac_ir.specs.Answers.{depth_of}
-use Rattle.tac_ir.specs.Counts.{temps_of}
-use Rattle.tac_thread.specs.declared.guest.Activation.{Activation}
 use Rattle.tac_thread.specs.declared.guest.Stage.{Stage}
 use Rattle.tac_thread.specs.declared.doing.Doing.{Doing}
 use Rattle.tac_thread.specs.declared.want.Want.{Want}
@@ -17,20 +13,20 @@ use Rattle.tac_thread.specs.declared.want.ReplyOf.{ReplyOf}
 use Rattle.tac_thread.specs.Meaning.{Meaning}
 use Rattle.tac_thread.specs.Life.{Life, instr_of}
 use Rattle.tac_thread.specs.tools.Left.{left_of}
-use Rattle.tac_thread.specs.Doing.{doing, done, silent_at, silent_next, want_of}
+use Rattle.tac_thread.specs.Doing.{doing, done, silent_at, silent_next}
 use Rattle.tac_thread.specs.RunsOn.{RunsOn}
 use Rattle.tac_thread.specs.RunsOn.RunsOn.{rests, runs}
-use Rattle.tac_thread.specs.Answered.{answered, joined, joined_at, temps_from}
+use Rattle.tac_thread.specs.Answered.{answered, joined, joined_at}
 use Rattle.tac_thread.specs.Begun.{begun, root_of, branch_of, entry_of}
-use Rattle.tac_thread.specs.Guests.{IsWhole, IsHeld, IsGuestOf, TakesReply}
-use Rattle.tac_thread.specs.Threads.{Lives, is_waiting, running, changed, HasBranch, end_in, ended_of, main_value, Settles, Resumes, IsFed, IsForked, IsBegun, AreGuests, IsTree, Takes, TakesStacks, AreBranches, planted, at_fork, nobody}
+use Rattle.tac_thread.specs.Guests.{IsHeld, IsGuestOf}
+use Rattle.tac_thread.specs.Threads.{Lives, is_waiting, running, changed, HasBranch, end_in, ended_of, main_value, Settles, Resumes, IsFed, IsForked, IsBegun, AreGuests, IsTree, IsSettling, Takes, TakesStacks, AreBranches, planted, at_fork, nobody}
 use Rattle.tac_thread.specs.Threads.Settles.{goes_on, main_ends, others_live, joins}
 use Rattle.tac_thread.specs.Threads.Resumes.{some_live, none_lives}
-use Rattle.tac_thread.specs.tools.Settling.{IsStepped, IsSettling, IsWaiting, IsJoined, ArePlantable}
+use Rattle.tac_thread.specs.tools.Settling.{IsStepped, IsWaiting, IsJoined, ArePlantable}
 use Rattle.tac_thread.proofs.Silent.{falls}
 use Rattle.tac_thread.proofs.Held.{guest_at_rest, held_answered, all_temps}
 use Rattle.tac_thread.proofs.Trees.{taking, changed_here, changed_other, waits_for, removed_tree, parent_waits, joined_settling, stepped_settling}
-use Rattle.tac_thread.proofs.Forking.{IsForking, forking, few_stacks, free_for, forked_tree, forking_waits}
+use Rattle.tac_thread.proofs.Forking.{IsForking, free_for, forked_tree, forking_waits}
 
 -- A silent stretch.
 

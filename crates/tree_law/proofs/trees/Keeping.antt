@@ -1,5 +1,5 @@
 -- What a tree of threads keeps is kept by all that answers, forks, ends and joins do to it.
-use Rattle.std.proofs.Common.{◌≡◌, ℕ, zero, suc, ◌+◌, ◌-◌, ◌*◌, ◌/◌, ◌%◌, ◌≤◌, ◌<◌, ◌⊎◌, List, [], ◌∷◌, length, Bool, true, false, refl, Option, Some, None, arith, sym, ◌∙◌, ap, subst, inl, inr, ⊎_elim}
+use Rattle.std.proofs.Common.{◌≡◌, ℕ, zero, suc, ◌+◌, ◌-◌, ◌*◌, ◌/◌, ◌%◌, ◌≤◌, ◌<◌, ◌⊎◌, List, length, Bool, true, false, refl, Option, Some, None, arith, sym, ◌∙◌, ap, subst, inl, inr, ⊎_elim}
 use Rattle.std.specs.Prelude.{nat_eq, nat_le, slice_get}
 use Rattle.std.proofs.lemmas.Bool.{eqb-true, eq-eqb, leb-true, leb-false}
 use Rattle.std.proofs.lemmas.Option.{slice_get_within}
@@ -9,8 +9,7 @@ use Rattle.tac_thread.specs.Meaning.{Meaning}
 use Rattle.tac_thread.specs.Life.{Life}
 use Rattle.tac_thread.specs.Answered.{answered, joined}
 use Rattle.tac_thread.specs.RunsOn.{RunsOn}
-use Rattle.tac_thread.specs.Begun.{branch_of}
-use Rattle.tac_thread.specs.Threads.{Lives, changed, HasBranch, HasParent, ended_of, Settles, IsFed, Resumes, IsForked, AreBranches, at_fork, planted, with_branch, is_waiting}
+use Rattle.tac_thread.specs.Threads.{Lives, changed, HasBranch, HasParent, ended_of, Settles, IsFed, Resumes, IsForked, at_fork, planted, is_waiting}
 use Rattle.tac_thread.specs.Threads.Settles.{goes_on, main_ends, others_live, joins}
 use Rattle.tac_thread.specs.Threads.Resumes.{some_live, none_lives}
 use Rattle.tac_thread.proofs.Trees.{changed_here, changed_other}

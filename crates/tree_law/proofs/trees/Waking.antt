@@ -1,6 +1,5 @@
 -- Who waits was told that it has forked, and who wants to fork stands at a fork.
-use Rattle.std.proofs.Common.{◌≡◌, ℕ, ◌+◌, ◌≤◌, Bool, true, false, List, [], ◌∷◌, length, refl, sym, ap, ◌∙◌, subst, arith, Option, Some, None}
-use Rattle.std.specs.Prelude.{IsTrue}
+use Rattle.std.proofs.Common.{◌≡◌, ℕ, Bool, true, false, List, [], ◌∷◌, length, refl, sym, ap, Option, Some, None}
 use Rattle.tac_ir.specs.declared.code.Code.{Code}
 use Rattle.tac_ir.specs.declared.code.Instr.{Instr}
 use Rattle.tac_thread.specs.declared.guest.Activation.{Activation}
@@ -10,11 +9,29 @@ use Rattle.tac_thread.specs.declared.want.Want.{Want}
 use Rattle.tac_thread.specs.declared.want.ReplyOf.{ReplyOf}
 use Rattle.tac_thread.specs.Meaning.{Meaning, divides_by_zero}
 use Rattle.tac_thread.specs.Life.{Life, instr_of, temp}
-use Rattle.tac_thread.specs.Doing.{doing, asked, given, tested, leaves, link_write, want_at, want_of}
+use Rattle.tac_thread.specs.RunsOn.{RunsOn}
+use Rattle.tac_thread.specs.Doing.{doing, done, silent_at, silent_next, asked, given, tested, leaves, link_write, want_at, want_of}
 use Rattle.tac_thread.specs.Threads.{is_waiting}
 use Rattle.tac_thread.specs.Answered.{calls, called, returned, returns, with_none, with_value, with_stack, answered_first, answered_at, answered}
 
 -- Who waits was told that it has forked.
+
+silent_awake : {V S : Type 0} (m : Meaning V S) (c : Code) (l k : Life V S) → silent_next m c l ≡ Some k → is_waiting k.stage ≡ false
+silent_awake {V} {S} m c l k silent = by l.stage silent
+  where
+    goes : (d : Doing V) → done l d ≡ Some k → is_waiting k.stage ≡ false
+    goes (Doing.Gives to v) e = let stage : Stage.Ready ≡ k.stage = cc in ap is_waiting (sym stage)
+    goes (Doing.Goes at) e = let stage : Stage.Ready ≡ k.stage = cc in ap is_waiting (sym stage)
+    goes (Doing.Asks w) e = cc
+
+    by : (stage : Stage V S) → silent_at m c l stage ≡ Some k → is_waiting k.stage ≡ false
+    by Stage.Ready e = goes (doing m c l.top (instr_of c l.top)) e
+    by stage e = cc
+
+-- who runs on does not wait
+pub runs_awake : {V S : Type 0} (m : Meaning V S) (c : Code) (l k : Life V S) → is_waiting l.stage ≡ false → RunsOn m c l k → is_waiting k.stage ≡ false
+runs_awake m c l k awake (RunsOn.rests one rest) = awake
+runs_awake m c l k awake (RunsOn.runs first next last step on) = runs_awake m c next k (silent_awake m c l next step) on
 
 returned_awake : {V S : Type 0} (m : Meaning V S) (c : Code) (l : Life V S) (callers : List (Activation V S)) (link : Option V) (v : V) → is_waiting l.stage ≡ false → is_waiting (returned m c l callers link v).stage ≡ false
 returned_awake m c l [] link v awake = awake
@@ -80,7 +97,7 @@ given_no : {V : Type 0} (to n : ℕ) (o : Option V) → asked (given to o) ≡ S
 given_no to n None e = cc
 given_no to n (Some v) e = cc
 
-fork_is : {V S : Type 0} (m : Meaning V S) (c : Code) (x : Activation V S) (n : ℕ) (i : Instr) → asked (doing m c x i) ≡ Some (Want.Fork n) → IsFork i n
+pub fork_is : {V S : Type 0} (m : Meaning V S) (c : Code) (x : Activation V S) (n : ℕ) (i : Instr) → asked (doing m c x i) ≡ Some (Want.Fork n) → IsFork i n
 fork_is m c x n (Instr.Fork join entries) want = record { join = join; entries = entries; is = refl; count = cc }
 fork_is m c x n (Instr.Un to o a) want = absurd (given_no to n (m.un o (temp m x a)) want)
 fork_is {V} {S} m c x n (Instr.Bin to o a b) want = absurd (by (divides_by_zero m o (temp m x b)) want)

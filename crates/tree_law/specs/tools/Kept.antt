@@ -1,5 +1,5 @@
 -- What each entry of a history keeps, whatever came before it: an invariant of lives along a chain of trees.
-use Rattle.std.specs.Prelude.{◌≡◌, ℕ, suc, ◌+◌, ◌≤◌, ◌<◌, true, false, Some, List, length, slice_get}
+use Rattle.std.specs.Prelude.{◌≡◌, ℕ, suc, ◌+◌, ◌≤◌, ◌<◌, false, Some, List, length, slice_get}
 use Rattle.tac_ir.specs.declared.code.Code.{Code}
 use Rattle.tac_ir.specs.declared.code.Instr.{Instr}
 use Rattle.tac_thread.specs.declared.want.ReplyOf.{ReplyOf}

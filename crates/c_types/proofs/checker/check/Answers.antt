@@ -1,8 +1,11 @@
 -- The walk's program is that of the tree, or its fault the first.
-use Rattle.std.proofs.Common.{rules, ◌≡◌, ◌≢◌, Result, Ok, Err, sym, subst}
+use Rattle.std.proofs.Common.{rules, ◌≡◌, ◌≢◌, List, [], Result, Ok, Err, sym, subst}
 use Rattle.c_ast.specs.Ast.{Ast, IsBuilt}
 use Rattle.c_typed.specs.declared.fault.TypeFault.{TypeFault}
 use Rattle.c_types.specs.declared.programs.Program.{Program}
+use Rattle.c_typed.specs.declared.program.Function.{Function}
+use Rattle.c_typed.specs.Sites.{numbered}
+use Rattle.c_typed.specs.Programs.{faults_of, typed_of}
 use Rattle.c_typed.specs.Typed.{Typed}
 use Rattle.c_typed.specs.Checks.{Checks, IsTyped}
 use Rattle.c_types.specs.tools.ProgramWalk.{program_walk}
@@ -15,6 +18,9 @@ refused a b r e same is told = subst (λ b. Checks b r) same (subst (λ r. Check
 
 typed : (a : Ast) (p : Program) → IsBuilt a.items a.names → program_walk a.names a.items a.last ≡ Ok p → IsTyped (as_typed p)
 typed a p built is = let all = walk_checks a (Ok p) is in record { source = a; built = built; keeps = all.0; typed = all.1 }
+
+abbrev with_functions : Program → List Function → Typed
+with_functions p fs = record { structs = p.structs; globals = p.globals; functions = fs; main = p.main }
 
 taken : (a b : Ast) (p : Program) → a ≡ b → program_walk a.names a.items a.last ≡ Ok p → Judges b (Ok p)
 taken a b p same is = subst (λ b. Judges b (Ok p)) same (walk_checks a (Ok p) is)
@@ -31,10 +37,14 @@ pub invariant_of-result : goal.invariant_of-result
 invariant_of-result c =
     let a : Ast = record { items = c.as_slice-2.result.now; names = c.as_slice.result.now; last = c.ast.inside.last } in
     let built : IsBuilt c.as_slice-2.result.now c.as_slice.result.now = search rules in
-    typed a c.in_ok-program.program built c.in_ok-program.ensures
+    let p = c.in_ok-program.program in
+    let same : numbered p.functions ≡ c.in_ok-functions.functions = search rules in
+    subst (λ fs. IsTyped (with_functions p fs)) same (typed a p built c.in_ok-program.ensures)
 
 pub returns : goal.returns
 returns c =
     let a : Ast = record { items = c.as_slice-2.result.now; names = c.as_slice.result.now; last = c.ast.inside.last } in
     let same : a ≡ c.args.ast = search rules in
-    taken a c.args.ast c.in_ok-program.program same c.in_ok-program.ensures
+    let p = c.in_ok-program.program in
+    let counted : numbered p.functions ≡ c.in_ok-functions.functions = search rules in
+    subst (λ fs. (faults_of c.args.ast ≡ []) × (with_functions p fs ≡ typed_of c.args.ast)) counted (taken a c.args.ast p same c.in_ok-program.ensures)

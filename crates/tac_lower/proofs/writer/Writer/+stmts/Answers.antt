@@ -40,6 +40,14 @@ pub stmt-returns-in-Call : goal.stmt-returns-in-Call
 stmt-returns-in-Call t c =
     subst (λ p. Emits p c.args.ends c.args.self.now c.argument.new.self c.argument.result) (sym (form.call_is (around_by c.args.structs.now c.args.in_main) c.args.s.now c.in-Call.line c.in-Call.call c.in-Call.is)) (c.argument.ensures c.args.ends)
 
+pub stmt-returns-in-PutInt : goal.stmt-returns-in-PutInt
+stmt-returns-in-PutInt t c =
+    subst (λ p. Emits p c.args.ends c.args.self.now c.put_int.new.self c.put_int.result) (sym (form.putint_is (around_by c.args.structs.now c.args.in_main) c.args.s.now c.in-PutInt.line c.in-PutInt.value c.in-PutInt.is)) (c.put_int.ensures c.args.ends)
+
+pub stmt-returns-in-Free : goal.stmt-returns-in-Free
+stmt-returns-in-Free t c =
+    subst (λ p. Emits p c.args.ends c.args.self.now c.free.new.self c.free.result) (sym (form.free_is (around_by c.args.structs.now c.args.in_main) c.args.s.now c.in-Free.line c.in-Free.pointer c.in-Free.is)) (c.free.ensures c.args.ends)
+
 pub stmt-returns-in-Return : goal.stmt-returns-in-Return
 stmt-returns-in-Return t c =
     subst (λ p. Emits p c.args.ends c.args.self.now c.give.new.self c.give.result) (sym (form.return_is (around_by c.args.structs.now c.args.in_main) c.args.s.now c.in-Return.line c.in-Return.value c.in-Return.is)) (c.give.ensures c.args.ends)

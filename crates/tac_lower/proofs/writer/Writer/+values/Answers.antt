@@ -359,43 +359,9 @@ expr-returns-in_err-temps-in-Call t c = λ ends.
     (leaves_stopped (chained [] (gathered [] (values_of c.args.line (struct_sizes c.args.structs.now) c.in-Call.arguments)) (λ temps. i.call c.args.line c.in-Call.function temps)) ends c.args.self.now c.arguments.new.self c.in_err-temps-in-Call.field-0.0
     ((stopped [] (gathered [] (values_of c.args.line (struct_sizes c.args.structs.now) c.in-Call.arguments)) (λ temps. i.call c.args.line c.in-Call.function temps) ends c.args.self.now c.arguments.new.self c.in_err-temps-in-Call.field-0.0 (subst (λ es. Emits (gathered [] (values_of c.args.line (struct_sizes c.args.structs.now) es)) ends c.args.self.now c.arguments.new.self (Err c.in_err-temps-in-Call.field-0.0)) c.as_slice.ensures (c.in_err-temps-in-Call.ensures ends))))))
 
-pub expr-returns-in_ok-a-in-PutInt : goal.expr-returns-in_ok-a-in-PutInt
-expr-returns-in_ok-a-in-PutInt t c = λ ends.
-    subst (λ y. Yields (y c.args.line) ends c.args.self.now c.quiet.new.self c.left-in-PutInt.result) (sym (levels.putint_is (struct_sizes c.args.structs.now) c.args.e.now c.in-PutInt.operand c.in-PutInt.is))
-    (subst (λ r. Yields (left ((value c.args.line (expr (struct_sizes c.args.structs.now) c.in-PutInt.operand)) ▷ λ a. i.quiet c.args.line (λ at. Instr.Out a))) ends c.args.self.now c.quiet.new.self r) (sym c.left-in-PutInt.ensures)
-    (leaves ((value c.args.line (expr (struct_sizes c.args.structs.now) c.in-PutInt.operand)) ▷ λ a. i.quiet c.args.line (λ at. Instr.Out a)) ends c.args.self.now c.quiet.new.self c.quiet.result
-    ((follow 0 ((value c.args.line (expr (struct_sizes c.args.structs.now) c.in-PutInt.operand))) (λ a. i.quiet c.args.line (λ at. Instr.Out a)) ends c.args.self.now c.value-in-PutInt.new.self c.quiet.new.self c.in_ok-a-in-PutInt.a c.quiet.result (λ x. refl)
-    (c.in_ok-a-in-PutInt.ensures ends)
-    (c.quiet.ensures ends)))))
-
-pub expr-returns-in_err-a-in-PutInt : goal.expr-returns-in_err-a-in-PutInt
-expr-returns-in_err-a-in-PutInt t c = λ ends.
-    let told : c.from_residual-in_err-a-in-PutInt.result ≡ Err c.in_err-a-in-PutInt.field-0.0 = search rules in
-    subst (λ y. Yields (y c.args.line) ends c.args.self.now c.value-in-PutInt.new.self c.from_residual-in_err-a-in-PutInt.result) (sym (levels.putint_is (struct_sizes c.args.structs.now) c.args.e.now c.in-PutInt.operand c.in-PutInt.is))
-    (subst (λ r. Yields (left ((value c.args.line (expr (struct_sizes c.args.structs.now) c.in-PutInt.operand)) ▷ λ a. i.quiet c.args.line (λ at. Instr.Out a))) ends c.args.self.now c.value-in-PutInt.new.self r) (sym told)
-    (leaves_stopped ((value c.args.line (expr (struct_sizes c.args.structs.now) c.in-PutInt.operand)) ▷ λ a. i.quiet c.args.line (λ at. Instr.Out a)) ends c.args.self.now c.value-in-PutInt.new.self c.in_err-a-in-PutInt.field-0.0
-    ((stopped 0 ((value c.args.line (expr (struct_sizes c.args.structs.now) c.in-PutInt.operand))) (λ a. i.quiet c.args.line (λ at. Instr.Out a)) ends c.args.self.now c.value-in-PutInt.new.self c.in_err-a-in-PutInt.field-0.0 (c.in_err-a-in-PutInt.ensures ends)))))
-
-pub expr-returns-in_ok-a-in-Free : goal.expr-returns-in_ok-a-in-Free
-expr-returns-in_ok-a-in-Free t c = λ ends.
-    subst (λ y. Yields (y c.args.line) ends c.args.self.now c.quiet-in-Free.new.self c.left-in-Free.result) (sym (levels.free_is (struct_sizes c.args.structs.now) c.args.e.now c.in-Free.operand c.in-Free.is))
-    (subst (λ r. Yields (left ((value c.args.line (expr (struct_sizes c.args.structs.now) c.in-Free.operand)) ▷ λ a. i.quiet c.args.line (λ at. Instr.Free a))) ends c.args.self.now c.quiet-in-Free.new.self r) (sym c.left-in-Free.ensures)
-    (leaves ((value c.args.line (expr (struct_sizes c.args.structs.now) c.in-Free.operand)) ▷ λ a. i.quiet c.args.line (λ at. Instr.Free a)) ends c.args.self.now c.quiet-in-Free.new.self c.quiet-in-Free.result
-    ((follow 0 ((value c.args.line (expr (struct_sizes c.args.structs.now) c.in-Free.operand))) (λ a. i.quiet c.args.line (λ at. Instr.Free a)) ends c.args.self.now c.value-in-Free.new.self c.quiet-in-Free.new.self c.in_ok-a-in-Free.a c.quiet-in-Free.result (λ x. refl)
-    (c.in_ok-a-in-Free.ensures ends)
-    (c.quiet-in-Free.ensures ends)))))
-
-pub expr-returns-in_err-a-in-Free : goal.expr-returns-in_err-a-in-Free
-expr-returns-in_err-a-in-Free t c = λ ends.
-    let told : c.from_residual-in_err-a-in-Free.result ≡ Err c.in_err-a-in-Free.field-0.0 = search rules in
-    subst (λ y. Yields (y c.args.line) ends c.args.self.now c.value-in-Free.new.self c.from_residual-in_err-a-in-Free.result) (sym (levels.free_is (struct_sizes c.args.structs.now) c.args.e.now c.in-Free.operand c.in-Free.is))
-    (subst (λ r. Yields (left ((value c.args.line (expr (struct_sizes c.args.structs.now) c.in-Free.operand)) ▷ λ a. i.quiet c.args.line (λ at. Instr.Free a))) ends c.args.self.now c.value-in-Free.new.self r) (sym told)
-    (leaves_stopped ((value c.args.line (expr (struct_sizes c.args.structs.now) c.in-Free.operand)) ▷ λ a. i.quiet c.args.line (λ at. Instr.Free a)) ends c.args.self.now c.value-in-Free.new.self c.in_err-a-in-Free.field-0.0
-    ((stopped 0 ((value c.args.line (expr (struct_sizes c.args.structs.now) c.in-Free.operand))) (λ a. i.quiet c.args.line (λ at. Instr.Free a)) ends c.args.self.now c.value-in-Free.new.self c.in_err-a-in-Free.field-0.0 (c.in_err-a-in-Free.ensures ends)))))
-
 pub expr-returns-in_ok-a-in-None : goal.expr-returns-in_ok-a-in-None
 expr-returns-in_ok-a-in-None t c = λ ends.
-    subst (λ y. Yields (y c.args.line) ends c.args.self.now c.block.new.self c.left-in-None.result) (sym (levels.new_is (struct_sizes c.args.structs.now) c.args.e.now c.in-New.item None (c.in-New.is ∙ ap (λ o. form.New c.in-New.item o) c.in-None.is)))
+    subst (λ y. Yields (y c.args.line) ends c.args.self.now c.block.new.self c.left-in-None.result) (sym (levels.new_is (struct_sizes c.args.structs.now) c.args.e.now c.in-New.site c.in-New.item None (c.in-New.is ∙ ap (λ o. form.New c.in-New.site c.in-New.item o) c.in-None.is)))
     (subst (λ r. Yields (left (i.constant c.args.line (pos 1) ▷ λ a. i.new c.args.line c.in-New.item a)) ends c.args.self.now c.block.new.self r) (sym c.left-in-None.ensures)
     (leaves (i.constant c.args.line (pos 1) ▷ λ a. i.new c.args.line c.in-New.item a) ends c.args.self.now c.block.new.self c.block.result
     ((follow 0 (i.constant c.args.line (pos 1)) (λ a. i.new c.args.line c.in-New.item a) ends c.args.self.now c.constant-in-None.new.self c.block.new.self c.in_ok-a-in-None.a c.block.result (λ x. refl)
@@ -405,14 +371,14 @@ expr-returns-in_ok-a-in-None t c = λ ends.
 pub expr-returns-in_err-a-in-None : goal.expr-returns-in_err-a-in-None
 expr-returns-in_err-a-in-None t c = λ ends.
     let told : c.from_residual-in_err-a-in-None.result ≡ Err c.in_err-a-in-None.field-0.0 = search rules in
-    subst (λ y. Yields (y c.args.line) ends c.args.self.now c.constant-in-None.new.self c.from_residual-in_err-a-in-None.result) (sym (levels.new_is (struct_sizes c.args.structs.now) c.args.e.now c.in-New.item None (c.in-New.is ∙ ap (λ o. form.New c.in-New.item o) c.in-None.is)))
+    subst (λ y. Yields (y c.args.line) ends c.args.self.now c.constant-in-None.new.self c.from_residual-in_err-a-in-None.result) (sym (levels.new_is (struct_sizes c.args.structs.now) c.args.e.now c.in-New.site c.in-New.item None (c.in-New.is ∙ ap (λ o. form.New c.in-New.site c.in-New.item o) c.in-None.is)))
     (subst (λ r. Yields (left (i.constant c.args.line (pos 1) ▷ λ a. i.new c.args.line c.in-New.item a)) ends c.args.self.now c.constant-in-None.new.self r) (sym told)
     (leaves_stopped (i.constant c.args.line (pos 1) ▷ λ a. i.new c.args.line c.in-New.item a) ends c.args.self.now c.constant-in-None.new.self c.in_err-a-in-None.field-0.0
     ((stopped 0 (i.constant c.args.line (pos 1)) (λ a. i.new c.args.line c.in-New.item a) ends c.args.self.now c.constant-in-None.new.self c.in_err-a-in-None.field-0.0 (c.in_err-a-in-None.ensures ends)))))
 
 pub expr-returns-in_ok-a-in-Some : goal.expr-returns-in_ok-a-in-Some
 expr-returns-in_ok-a-in-Some t c = λ ends.
-    subst (λ y. Yields (y c.args.line) ends c.args.self.now c.block-in-Some.new.self c.left-in-Some.result) (sym (levels.new_is (struct_sizes c.args.structs.now) c.args.e.now c.in-New.item (Some c.in-Some.count) (c.in-New.is ∙ ap (λ o. form.New c.in-New.item o) c.in-Some.is)))
+    subst (λ y. Yields (y c.args.line) ends c.args.self.now c.block-in-Some.new.self c.left-in-Some.result) (sym (levels.new_is (struct_sizes c.args.structs.now) c.args.e.now c.in-New.site c.in-New.item (Some c.in-Some.count) (c.in-New.is ∙ ap (λ o. form.New c.in-New.site c.in-New.item o) c.in-Some.is)))
     (subst (λ r. Yields (left ((value c.args.line (expr (struct_sizes c.args.structs.now) c.in-Some.count)) ▷ λ a. i.new c.args.line c.in-New.item a)) ends c.args.self.now c.block-in-Some.new.self r) (sym c.left-in-Some.ensures)
     (leaves ((value c.args.line (expr (struct_sizes c.args.structs.now) c.in-Some.count)) ▷ λ a. i.new c.args.line c.in-New.item a) ends c.args.self.now c.block-in-Some.new.self c.block-in-Some.result
     ((follow 0 ((value c.args.line (expr (struct_sizes c.args.structs.now) c.in-Some.count))) (λ a. i.new c.args.line c.in-New.item a) ends c.args.self.now c.value-in-Some.new.self c.block-in-Some.new.self c.in_ok-a-in-Some.a c.block-in-Some.result (λ x. refl)
@@ -422,7 +388,7 @@ expr-returns-in_ok-a-in-Some t c = λ ends.
 pub expr-returns-in_err-a-in-Some : goal.expr-returns-in_err-a-in-Some
 expr-returns-in_err-a-in-Some t c = λ ends.
     let told : c.from_residual-in_err-a-in-Some.result ≡ Err c.in_err-a-in-Some.field-0.0 = search rules in
-    subst (λ y. Yields (y c.args.line) ends c.args.self.now c.value-in-Some.new.self c.from_residual-in_err-a-in-Some.result) (sym (levels.new_is (struct_sizes c.args.structs.now) c.args.e.now c.in-New.item (Some c.in-Some.count) (c.in-New.is ∙ ap (λ o. form.New c.in-New.item o) c.in-Some.is)))
+    subst (λ y. Yields (y c.args.line) ends c.args.self.now c.value-in-Some.new.self c.from_residual-in_err-a-in-Some.result) (sym (levels.new_is (struct_sizes c.args.structs.now) c.args.e.now c.in-New.site c.in-New.item (Some c.in-Some.count) (c.in-New.is ∙ ap (λ o. form.New c.in-New.site c.in-New.item o) c.in-Some.is)))
     (subst (λ r. Yields (left ((value c.args.line (expr (struct_sizes c.args.structs.now) c.in-Some.count)) ▷ λ a. i.new c.args.line c.in-New.item a)) ends c.args.self.now c.value-in-Some.new.self r) (sym told)
     (leaves_stopped ((value c.args.line (expr (struct_sizes c.args.structs.now) c.in-Some.count)) ▷ λ a. i.new c.args.line c.in-New.item a) ends c.args.self.now c.value-in-Some.new.self c.in_err-a-in-Some.field-0.0
     ((stopped 0 ((value c.args.line (expr (struct_sizes c.args.structs.now) c.in-Some.count))) (λ a. i.new c.args.line c.in-New.item a) ends c.args.self.now c.value-in-Some.new.self c.in_err-a-in-Some.field-0.0 (c.in_err-a-in-Some.ensures ends)))))

@@ -1,5 +1,4 @@
-use Rattle.tac_thread.specs.Threads.{life_in}
-use Rattle.tac_thread.specs.tools.Settling.{IsSettling}
+use Rattle.tac_thread.specs.Threads.{life_in, IsSettling}
 use Rattle.tac_thread.proofs.Trees.{SettlesOn}
 use Rattle.tac_thread.proofs.tree.Tree.settle.Given as goal
 

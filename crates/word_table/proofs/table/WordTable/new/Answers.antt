@@ -6,7 +6,7 @@ use Rattle.word_table.specs.tools.Areas.{memory_of}
 use Rattle.word_table.specs.tools.BitRows.{AreRows}
 use Rattle.word_table.proofs.BitRows.{are_rows_of, fits_row}
 use Rattle.word_table.proofs.Members.{short}
-use Rattle.word_table.proofs.LaidOut.{laid_out}
+use Rattle.code_layout.proofs.Placed.{laid_out}
 use Rattle.word_table.proofs.Initial.{fits, begins}
 use Rattle.word_table.proofs.table.WordTable.new.Goals as goal
 

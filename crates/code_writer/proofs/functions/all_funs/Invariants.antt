@@ -1,0 +1,8 @@
+use Rattle.std.proofs.Common.{drop}
+use Rattle.std.specs.Prelude.{List, ℕ, ◌≡◌, ◌++◌}
+use Rattle.std.specs.String.{string_bytes}
+use Rattle.text_law.specs.ModuleText.{funs_text}
+use Rattle.code_writer.proofs.functions.all_funs.Given as goal
+
+abbrev pub invariant-loop-each : goal.invariant-loop-each
+invariant-loop-each l = (rest : List ℕ) → string_bytes l.text ++ funs_text (drop l.each-index l.funs) rest ≡ string_bytes l.fn.text ++ funs_text l.funs rest

@@ -1,0 +1,14 @@
+pub mod Members
+pub mod Least
+pub mod Built
+pub mod ShapeNodes
+pub mod VarNodes
+pub mod PathNodes
+pub mod PointNumbers
+pub mod Parallels
+pub mod Covering
+pub mod MadePoints
+pub mod ReadPoints
+pub mod Facts
+pub mod ReachFacts
+pub mod RowRules

@@ -1,0 +1,2 @@
+pub mod EndsSomewhere
+pub mod Made

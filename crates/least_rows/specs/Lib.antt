@@ -1,0 +1,5 @@
+pub mod Rules
+pub mod Derived
+pub mod Solutions
+pub mod FirstOpen
+pub mod tools

@@ -1,0 +1,27 @@
+//! Numbers are written.
+
+ghost use Rattle.std.specs.Prelude.{◌≡◌, ◌++◌, ◌∷◌, [], OnOk};
+ghost use Rattle.std.specs.Fmt.{decimal};
+ghost use Rattle.std.specs.List.{flat_map};
+ghost use Rattle.std.specs.String.{string_bytes};
+
+use dfi_base::Memory;
+
+/// Each number, behind the same bytes.
+pub fn numbers(text: &mut String, lead: &str, numbers: &[u32]) -> Result<(), Memory>
+    ensures { OnOk result (string_bytes text.new ≡ string_bytes text.old ++ flat_map (λ n. lead.now ++ decimal n) numbers.now) }
+{
+    for number in numbers {
+        write!(text, "{lead}{number}")?;
+    }
+    Ok(())
+}
+
+/// Each number behind the same bytes, to the end of the line.
+pub fn numbers_to_end(text: &mut String, lead: &str, list: &[u32]) -> Result<(), Memory>
+    ensures { OnOk result (string_bytes text.new ≡ string_bytes text.old ++ (flat_map (λ n. lead.now ++ decimal n) list.now ++ 10 ∷ [])) }
+{
+    numbers(text, lead, list)?;
+    writeln!(text)?;
+    Ok(())
+}

@@ -1,0 +1,46 @@
+//! A line for each value, and their number before them.
+
+ghost use Rattle.std.specs.Prelude.{◌≡◌, ◌++◌, ◌∷◌, [], ℕ, List, OnOk, length};
+ghost use Rattle.std.specs.Fmt.{decimal};
+ghost use Rattle.std.specs.String.{string_bytes};
+ghost use Rattle.line_format.specs.Lines.{line, lines as lines_text};
+ghost use Rattle.line_writer.specs.Writes.{Writes};
+
+use dfi_base::Memory;
+
+/// A kind of value that is written as a line.
+pub trait Line {
+    type Value;
+
+    /// The words of the line.
+    ghost words: { Self.Value → List (List ℕ) };
+
+    fn write(text: &mut String, value: &Self::Value) -> Result<(), Memory>
+        ensures { OnOk result (string_bytes text.new ≡ string_bytes text.old ++ line (words value.now) []) };
+}
+
+/// A line for each.
+pub fn lines<L: Line>(text: &mut String, values: &[L::Value]) -> Result<(), Memory>
+    ensures { OnOk result (Writes (lines_text L.words values.now) (string_bytes text.old) (string_bytes text.new)) }
+{
+    for value in values {
+        L::write(text, value)?;
+    }
+    Ok(())
+}
+
+/// How many there are behind a name.
+pub fn count(text: &mut String, name: &str, many: usize) -> Result<(), Memory>
+    ensures { OnOk result (Writes (line (name.now ∷ decimal many ∷ [])) (string_bytes text.old) (string_bytes text.new)) }
+{
+    writeln!(text, "{name} {many}")?;
+    Ok(())
+}
+
+/// How many there are behind a name, and a line for each.
+pub fn section<L: Line>(text: &mut String, name: &str, values: &[L::Value]) -> Result<(), Memory>
+    ensures { OnOk result (Writes (λ rest. line (name.now ∷ decimal (length values.now) ∷ []) (lines_text L.words values.now rest)) (string_bytes text.old) (string_bytes text.new)) }
+{
+    count(text, name, values.len())?;
+    lines::<L>(text, values)
+}

@@ -1,7 +1,0 @@
-use Rattle.std.proofs.Common.{refl}
-use Rattle.module_text.specs.ModuleText.{module_text}
-use Rattle.module_text.proofs.Whole.{one_module}
-use Rattle.module_text.proofs.law.texts_are_read_back.Goals as goal
-
-pub returns : goal.returns
-returns c = λ m k i t. one_module (module_text m) k m t (i, refl)

@@ -1,9 +1,0 @@
-use Rattle.line_format.specs.tools.Answers.{read_all}
-use Rattle.line_format.proofs.Firsts.{either}
-use Rattle.module_text.specs.IsText.{IsText}
-use Rattle.module_text.specs.tools.Whole.{whole}
-use Rattle.module_text.proofs.Whole.{one_answer}
-use Rattle.module_text.proofs.law.texts_are_told.Goals as goal
-
-pub returns : goal.returns
-returns c = λ bytes. either IsText bytes (read_all whole bytes) (one_answer bytes)

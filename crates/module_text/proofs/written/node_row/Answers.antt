@@ -1,0 +1,10 @@
+use Rattle.std.proofs.Common.{[], ◌∷◌}
+use Rattle.std.specs.Prelude.{codes}
+use Rattle.std.specs.Fmt.{decimal}
+use Rattle.line_writer.proofs.Lining.{joined, listed_line}
+use Rattle.module_text.proofs.written.node_row.Goals as goal
+
+pub returns : goal.returns
+returns c =
+    joined (codes "node " ∷ []) _ (decimal c.args.node) _ _ _ _
+    c.in_ok-write.ensures.bytes c.in_ok-numbers_to_end.ensures (listed_line decimal (decimal c.args.node) c.args.nodes.now)

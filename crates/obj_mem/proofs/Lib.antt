@@ -1,0 +1,11 @@
+pub mod Back
+pub mod Blocks
+pub mod FoundWrites
+pub mod InObjects
+pub mod Inputs
+pub mod Makers
+pub mod Offsets
+pub mod Over
+pub mod Rows
+pub mod WasMade
+pub mod Words

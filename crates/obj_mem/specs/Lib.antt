@@ -1,0 +1,10 @@
+pub mod Alive
+pub mod Asked
+pub mod Input
+pub mod Inside
+pub mod Laws
+pub mod Objects
+pub mod Opening
+pub mod Valid
+pub mod Values
+pub mod Written

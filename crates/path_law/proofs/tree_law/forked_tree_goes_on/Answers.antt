@@ -1,5 +1,0 @@
-use Rattle.path_law.proofs.Forks.{tree_forked as shown}
-use Rattle.path_law.proofs.tree_law.forked_tree_goes_on.Goals as goal
-
-pub returns : goal.returns
-returns c = shown

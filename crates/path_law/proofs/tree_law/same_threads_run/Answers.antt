@@ -1,5 +1,0 @@
-use Rattle.path_law.proofs.TreeLaws.{same_runnable as shown}
-use Rattle.path_law.proofs.tree_law.same_threads_run.Goals as goal
-
-pub returns : goal.returns
-returns c = shown

@@ -1,5 +1,0 @@
-use Rattle.path_law.proofs.Grown.{tree_begins as shown}
-use Rattle.path_law.proofs.tree_law.tree_begins.Goals as goal
-
-pub returns : goal.returns
-returns c = shown

@@ -1,0 +1,5 @@
+pub mod Prefixes
+pub mod Reading
+pub mod Rows
+pub mod Shuffling
+pub mod Memory

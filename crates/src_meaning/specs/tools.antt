@@ -1,0 +1,4 @@
+pub mod Along
+pub mod Heard
+pub mod Reader
+pub mod Threads

@@ -1,0 +1,10 @@
+pub mod Sums
+pub mod Kin
+pub mod Kids
+pub mod Merging
+pub mod Backward
+pub mod Moves
+pub mod Tree
+pub mod Opening
+pub mod Ends
+pub mod Serving

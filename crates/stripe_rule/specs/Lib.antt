@@ -1,0 +1,10 @@
+pub mod Terms
+pub mod Locks
+pub mod Holds
+pub mod Kids
+pub mod Views
+pub mod Kept
+pub mod Steps
+pub mod Serving
+pub mod Laws
+pub mod tools

@@ -1,0 +1,4 @@
+pub mod Carried
+pub mod Passes
+pub mod Calls
+pub mod Opened

@@ -1,0 +1,5 @@
+pub mod ModuleText
+pub mod IsModule
+pub mod IsText
+pub mod Laws
+pub mod tools
