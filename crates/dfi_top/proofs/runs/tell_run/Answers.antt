@@ -1,4 +1,4 @@
-use Rattle.word_table.proofs.LaidOut.{laid_out}
+use Rattle.code_layout.proofs.Placed.{laid_out}
 use Rattle.dfi_top.proofs.runs.tell_run.Goals as goal
 
 pub report-requires : goal.report-requires
