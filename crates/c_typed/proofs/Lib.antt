@@ -35,3 +35,4 @@ mod SiteLevels
 mod SitesKnown
 mod SitesCounted
 mod WellSites
+pub mod Few

@@ -12,7 +12,7 @@ use Rattle.c_typed.specs.declared.stmt.Stmt.{ind-Stmt, Stmt, roll-Stmt, map-Stmt
 use Rattle.c_typed.specs.declared.stmt.Stmt.TheOpen.{Stmt-F}
 use Rattle.c_typed.specs.declared.program.Function.{Function}
 use Rattle.c_typed.specs.Decls.{joined_lists}
-use Rattle.c_typed.specs.Sites.{if_there, form_sites, expr_sites, condition_sites, branch_sites, layer_sites, stmt_sites, function_sites, Sited, in_turn, there, number_form, expr, expr_there, condition, condition_there, branch, number_layer, stmt, function}
+use Rattle.c_typed.specs.Sites.{if_there, expr_sites, condition_sites, branch_sites, layer_sites, stmt_sites, function_sites, Sited, in_turn, number_form, expr, expr_there, condition, condition_there, branch, number_layer, stmt, function}
 use Rattle.c_typed.proofs.SiteLevels.{with_form, sited_form, mapped, form_roll, expr_is, form_list, list_roll, sites_is, stmt_roll, layer_roll, with_body, branches_of, branches_mapped}
 
 -- Counts.

@@ -1,7 +1,5 @@
 -- What is well-formed stays so when its sites are numbered.
-use Rattle.std.proofs.Common.{◌≡◌, ℕ, suc, ◌+◌, ◌≤◌, Bool, true, false, ◌&&◌, List, [], ◌∷◌, ◌++◌, map, length, Option, Some, None, refl, ap, sym, ◌∙◌, subst}
-use Rattle.std.proofs.lemmas.List.{length-map}
-use Rattle.dfi_base.specs.declared.numbers.Line.{Line}
+use Rattle.std.proofs.Common.{◌≡◌, ℕ, suc, ◌+◌, ◌≤◌, true, false, ◌&&◌, List, [], ◌∷◌, ◌++◌, map, length, Option, Some, None, refl, ap, sym, ◌∙◌, subst}
 use Rattle.c_typed.specs.declared.types.ObjectType.{ObjectType}
 use Rattle.c_typed.specs.declared.types.ExprType.{ExprType}
 use Rattle.c_typed.specs.declared.expr.Expr.{Expr}
@@ -14,9 +12,9 @@ use Rattle.c_typed.specs.declared.stmt.Stmt.TheOpen.{Stmt-F}
 use Rattle.c_typed.specs.Types.{accepts, is_truth, fits}
 use Rattle.c_typed.specs.Exprs.{binary_type, all_fit}
 use Rattle.c_typed.specs.Stmts.{scalar_at, assigns_scalar}
-use Rattle.c_typed.specs.Sites.{Sited, in_turn, there, number_form, expr, expr_there, condition, condition_there, branch, number_layer, stmt}
-use Rattle.c_typed.specs.IsWell.{Context, IsTyping, IsCallOf, IsPrefix, IsFreed, IsCount, IsLayer, operands_of, IsExpr, AreExprs, none, each, known, Round, in_loop_of, out_of_loop, in_branch_of, IsCondition, IsConditionThere, IsTarget, is_call, is_simple, IsReturned, IsStmtLayer, Placed, placed, in_branches, stmts_of, IsStmt, AreStmts}
-use Rattle.c_typed.proofs.SiteLevels.{with_form, mapped, expr_of, typing_is, stmt_of, with_body, branches_of, branches_mapped}
+use Rattle.c_typed.specs.Sites.{Sited, in_turn, number_form, expr, expr_there, condition, condition_there, branch, number_layer, stmt}
+use Rattle.c_typed.specs.IsWell.{Context, IsTyping, IsPrefix, IsFreed, IsLayer, operands_of, IsExpr, AreExprs, Round, in_loop_of, out_of_loop, in_branch_of, IsCondition, IsConditionThere, IsTarget, is_call, is_simple, IsReturned, IsStmtLayer, Placed, placed, in_branches, stmts_of, IsStmt, AreStmts}
+use Rattle.c_typed.proofs.SiteLevels.{with_form, mapped, expr_of, typing_is, stmt_of, with_body, branches_mapped}
 
 fits_same : (es : List Expr) (ts : List ObjectType) (n : ℕ) → all_fit ((in_turn (map expr es)).from n) ts ≡ all_fit es ts
 fits_same [] [] n = refl
@@ -74,7 +72,7 @@ module _ (c : Context) where
   level_known s Form-F.Left n t l all = layer_known s Form-F.Left t l AreExprs.none
   level_known s (Form-F.New site item None) n t l all = layer_known s (Form-F.New (n + 0) item None) t l AreExprs.none
   level_known s (Form-F.New site item (Some e)) n t l all =
-      layer_known s (Form-F.New (n + (expr e).count) item (Some ((expr e).from n))) t (typing_is e n ∙ l.0, l.1) (single e n all.0)
+      layer_known s (Form-F.New (n + (expr e).count) item (Some ((expr e).from n))) t (typing_is e n ∙ l.0, l.1, l.2) (single e n all.0)
 
   mutual
     pub expr_known : {e : Expr} → IsExpr c e → (n : ℕ) → IsExpr c ((expr e).from n)

@@ -9,6 +9,7 @@ use Rattle.c_ast.specs.declared.decl.TypeName.{TypeName}
 use Rattle.c_ast.specs.declared.expr.UnaryOp.{UnaryOp}
 use Rattle.c_ast.specs.declared.expr.BinaryOp.{BinaryOp}
 use Rattle.c_typed.specs.declared.types.ObjectType.{ObjectType}
+use Rattle.c_typed.specs.declared.program.Struct.{Struct}
 use Rattle.c_typed.specs.declared.types.ExprType.{ExprType}
 use Rattle.c_typed.specs.declared.expr.PrefixOp.{PrefixOp}
 use Rattle.c_typed.specs.declared.expr.Expr.{Expr}
@@ -23,7 +24,7 @@ use Rattle.c_typed.specs.Exprs
 use Rattle.c_typed.specs.Exprs.{made, Size, Reading, value, place, operands, value_by_type, place_by_type, of_ints, of_sum, of_difference, of_equality, binary_type, binary, int_prefix, plus, pointed_at, address_by, address, unary, unless_untyped, item_by, item_at, struct_by, struct_of, struct_at, struct_behind, with_struct}
 use Rattle.c_typed.specs.IsWell.{IsBase, IsObject, IsTyping, Context, IsExpr, IsPrefix}
 use Rattle.c_typed.proofs.WellParts.{none_some, some_is, Stands, Pure, pure_tokens, pure_joined, pure_map, pure_obeys, pure_weaker}
-use Rattle.c_typed.proofs.WellTypes.{IsLinked, struct_is, item_object, typing_of, is_typed, no_unknown, made_known, one, two, place_object, pointer_object, value_known, IsUsedAs, IsUsed, used, used_at, is_known, never_unknown}
+use Rattle.c_typed.proofs.WellTypes.{IsLinked, struct_is, item_object, typing_of, no_unknown, made_known, one, two, place_object, pointer_object, value_known, IsUsedAs, IsUsed, used, is_known}
 
 -- What is wanted of a part that may be there.
 abbrev pub IfPure : (w : Whole) (c : Context) {A : Type 0} → Option (Part A) → (A → Type 0) → Type 0
@@ -34,13 +35,17 @@ abbrev pub IsUsedThere : Context → Option Expr → Type 0
 IsUsedThere c None = Unit {0}
 IsUsedThere c (Some e) = IsUsed c e
 
+-- the type of a type name
+abbrev pub IsNamed : List Struct → ObjectType → Type 0
+IsNamed structs t = IsObject structs t × (t.lengths ≡ [])
+
 pub record IsSize (c : Context) (s : Size) : Type 0 where
-  pub item : IsObject c.structs s.item
+  pub item : IsNamed c.structs s.item
   pub count : IsUsedThere c s.count
 
 pub record IsSound (w : Whole) (c : Context) (r : Reading) : Type 0 where
   pub plain : Pure w c r.plain (IsUsed c)
-  pub sizeof : IfPure w c r.sizeof (IsObject c.structs)
+  pub sizeof : IfPure w c r.sizeof (IsNamed c.structs)
   pub size : IfPure w c r.size (IsSize c)
 
 module _ (w : Whole) (c : Context) (linked : IsLinked w c) where
@@ -302,8 +307,8 @@ module _ (w : Whole) (c : Context) (linked : IsLinked w c) where
       (pure_obeys w c unknown tag.line (known_tag w by_value tag) (tokens 1) {Q = λ u. HasBase (Base.Struct line tag)} (pure_tokens w c 1)
       (λ h u v st x has. tag_known line tag h by_value (is_tag w h by_value tag.name) u st refl has)) (λ a b x y. y)
 
-  pub sound_type_name : (t : TypeName) → Pure w c (type_name w t) (IsObject c.structs)
+  pub sound_type_name : (t : TypeName) → Pure w c (type_name w t) (IsNamed c.structs)
   sound_type_name t =
       pure_map w c (λ _. named_type w.tags t) (base w (nat_eq t.stars 0) t.base ⊗> tokens t.stars)
       (pure_joined w c (λ a b. b) (base w (nat_eq t.stars 0) t.base) (tokens t.stars) {R = λ u. HasBase t.base} (sound_base (nat_eq t.stars 0) t.base) (pure_tokens w c t.stars) (λ a b x y. x))
-      (λ u is. item_object w c linked (base_type w.tags t.base) t.stars is)
+      (λ u is. (item_object w c linked (base_type w.tags t.base) t.stars is, refl))

@@ -31,7 +31,7 @@ use Rattle.c_typed.proofs.Levels.{mapped_form, read_form, form_roll, expr_reads}
 use Rattle.c_typed.proofs.ScopeLaws.{variable_found}
 use Rattle.c_typed.proofs.WellParts.{none_some, some_is, IsBound, found_bound, Pure, pure_tokens, pure_given, pure_joined, pure_map, pure_obeys, pure_refused}
 use Rattle.c_typed.proofs.WellTypes.{IsLinked, scalar_typing, place_is, no_unknown, made_known, one, place_object, pointer_object, field_there, IsUsedAs, IsUsed, used_at, never_unknown}
-use Rattle.c_typed.proofs.WellExprs.{IfPure, IsUsedThere, all_used, IsSize, IsSound, plainly, sound_value, sound_binary, sound_unary, sound_index, sound_type_name}
+use Rattle.c_typed.proofs.WellExprs.{IfPure, IsUsedThere, all_used, IsNamed, IsSize, IsSound, plainly, sound_value, sound_binary, sound_unary, sound_index, sound_type_name}
 
 -- The function of a name.
 found_name : (x m : ℕ) (ms : List ℕ) (y : ℕ) (t : Bool) → nat_eq x m ≡ t → (slice_get ms (place_of x ms) ≡ Some y → y ≡ x)
@@ -299,7 +299,7 @@ module _ (w : Whole) (c : Context) (linked : IsLinked w c) where
   -- `malloc`
   new_known : (s : Size) (v : Expr) → IsSize c s → IsCount s.count → Some (made (ExprType.Pointer s.item) (Form-F.New 0 s.item s.count)) ≡ Some v → IsExpr c v
   new_known s v is count has =
-      subst (IsExpr c) (some_is has) (made_known w c linked (ExprType.Pointer s.item) (Form-F.New 0 s.item s.count) is.item (count, refl) (there s.count is.count count)) where
+      subst (IsExpr c) (some_is has) (made_known w c linked (ExprType.Pointer s.item) (Form-F.New 0 s.item s.count) is.item.0 (count, is.item.1, refl) (there s.count is.count count)) where
         there : (o : Option Expr) → IsUsedThere c o → IsCount o → AreExprs c (operand_there o)
         there None is at = none
         there (Some e) is at = one w c linked e (used_at c e ExprType.Int is at)
@@ -388,13 +388,13 @@ module _ (w : Whole) (c : Context) (linked : IsLinked w c) where
   cast_known h None t e v is has = absurd (none_some has)
   cast_known h (Some f) t e v is has = cast_when e v (is_malloc (meaning w h f) && fits e.typing t) is has
 
-  sound_counted : (l r : Reading) (o p : Option (Part ObjectType)) → IsSound w c l → IsSound w c r → IfPure w c o (IsObject c.structs) → IfPure w c p (IsObject c.structs)
+  sound_counted : (l r : Reading) (o p : Option (Part ObjectType)) → IsSound w c l → IsSound w c r → IfPure w c o (IsNamed c.structs) → IfPure w c p (IsNamed c.structs)
       → IfPure w c (counted_by l r o p) (IsSize c)
   sound_counted l r o (Some p) left right is that =
       pure_joined w c many_of (value l <⊗ tokens 1) p (pure_joined w c (λ a b. a) (value l) (tokens 1) {R = IsUsed c} (sound_value w c linked l left) (pure_tokens w c 1) (λ a b x y. x)) that
       (λ e t e_is t_is. record { item = t_is; count = e_is })
   sound_counted l r (Some p) None left right is that =
-      pure_joined w c (λ t e. many_of e t) (p <⊗ tokens 1) (value r) (pure_joined w c (λ a b. a) p (tokens 1) {R = IsObject c.structs} is (pure_tokens w c 1) (λ a b x y. x)) (sound_value w c linked r right)
+      pure_joined w c (λ t e. many_of e t) (p <⊗ tokens 1) (value r) (pure_joined w c (λ a b. a) p (tokens 1) {R = IsNamed c.structs} is (pure_tokens w c 1) (λ a b x y. x)) (sound_value w c linked r right)
       (λ t e t_is e_is. record { item = t_is; count = e_is })
   sound_counted l r None None left right is that = tt
 
@@ -402,10 +402,10 @@ module _ (w : Whole) (c : Context) (linked : IsLinked w c) where
   sound_product BinaryOp.Mul l r left right = sound_counted l r l.sizeof r.sizeof left right left.sizeof right.sizeof
   sound_product _ l r left right = tt
 
-  sound_sizeof : (t : TypeName) → Pure w c (tokens 2 ⊗> type_name w t <⊗ tokens 1) (IsObject c.structs)
+  sound_sizeof : (t : TypeName) → Pure w c (tokens 2 ⊗> type_name w t <⊗ tokens 1) (IsNamed c.structs)
   sound_sizeof t =
-      pure_joined w c (λ a b. a) (tokens 2 ⊗> type_name w t) (tokens 1) {R = IsObject c.structs}
-      (pure_joined w c (λ a b. b) (tokens 2) (type_name w t) {R = IsObject c.structs} (pure_tokens w c 2) (sound_type_name w c linked t) (λ a b x y. y)) (pure_tokens w c 1) (λ a b x y. x)
+      pure_joined w c (λ a b. a) (tokens 2 ⊗> type_name w t) (tokens 1) {R = IsNamed c.structs}
+      (pure_joined w c (λ a b. b) (tokens 2) (type_name w t) {R = IsNamed c.structs} (pure_tokens w c 2) (sound_type_name w c linked t) (λ a b x y. y)) (pure_tokens w c 1) (λ a b x y. x)
 
   used_plainly : (line : Line) (p : Part Expr) → Pure w c p (IsUsed c) → IsSound w c (Exprs.reading line p)
   used_plainly line p is = record { plain = is; sizeof = tt; size = tt }
@@ -438,8 +438,8 @@ module _ (w : Whole) (c : Context) (linked : IsLinked w c) where
       used_plainly line _
       (pure_obeys w c mismatch line (λ h e. cast_by w h (expr w x.0).calls e.0 e.1) (tokens 1 ⊗> type_name w to <⊗ tokens 1 ⊗ value (expr w x.0))
       (pure_joined w c (λ a b. (a, b)) (tokens 1 ⊗> type_name w to <⊗ tokens 1) (value (expr w x.0)) {R = λ p. IsUsed c p.1}
-      (pure_joined w c (λ a b. a) (tokens 1 ⊗> type_name w to) (tokens 1) {R = IsObject c.structs}
-      (pure_joined w c (λ a b. b) (tokens 1) (type_name w to) {R = IsObject c.structs} (pure_tokens w c 1) (sound_type_name w c linked to) (λ a b x y. y)) (pure_tokens w c 1) (λ a b x y. x))
+      (pure_joined w c (λ a b. a) (tokens 1 ⊗> type_name w to) (tokens 1) {R = IsNamed c.structs}
+      (pure_joined w c (λ a b. b) (tokens 1) (type_name w to) {R = IsNamed c.structs} (pure_tokens w c 1) (sound_type_name w c linked to) (λ a b x y. y)) (pure_tokens w c 1) (λ a b x y. x))
       (sound_value w c linked (expr w x.0) x.1) (λ a b x y. y))
       (λ h e v st is has. cast_known h (expr w x.0).calls e.0 e.1 v is has))
   level_sound line (Source.Index x i) = plainly w c linked line _ (sound_index w c linked line (expr w x.0) (expr w i.0) x.1 i.1)

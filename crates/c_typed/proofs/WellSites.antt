@@ -1,10 +1,10 @@
 -- A typed program stays well-formed when its sites are numbered.
-use Rattle.std.proofs.Common.{◌≡◌, ℕ, zero, suc, ◌+◌, ◌≤◌, false, List, [], ◌∷◌, map, length, Some, refl, ap, sym, ◌∙◌, subst}
+use Rattle.std.proofs.Common.{◌≡◌, ℕ, zero, suc, ◌+◌, ◌≤◌, false, List, [], ◌∷◌, map, length, Some, refl, ap, sym, subst}
 use Rattle.std.specs.Prelude.{slice_get}
 use Rattle.c_typed.specs.declared.program.Function.{Function}
 use Rattle.c_typed.specs.Typed.{Typed}
 use Rattle.c_typed.specs.Programs.{declaration_limit, function_limit}
-use Rattle.c_typed.specs.Sites.{in_turn, stmt, with_body, function, numbered}
+use Rattle.c_typed.specs.Sites.{in_turn, stmt, function, numbered}
 use Rattle.c_typed.specs.IsWell.{AreStmts, placed, IsFunction, IsIntResult, callee_of, context_of, declared_in, declared_structs, declared_functions, declarations, objects_of}
 use Rattle.c_typed.proofs.WellParts.{none_some, some_is}
 use Rattle.c_typed.proofs.WellFunctions.{AllOf}

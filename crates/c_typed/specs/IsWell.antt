@@ -109,7 +109,7 @@ IsLayer c s (Form-F.Binary e op f) = binary_type op e.typing f.typing ≡ Some s
 IsLayer c s (Form-F.Call k es) = IsCallOf c k es s
 IsLayer c s Form-F.GetInt = s ≡ ExprType.Int
 IsLayer c s Form-F.Left = s ≡ ExprType.Int
-IsLayer c s (Form-F.New site item count) = IsCount count × (s ≡ ExprType.Pointer item)
+IsLayer c s (Form-F.New site item count) = IsCount count × (item.lengths ≡ []) × (s ≡ ExprType.Pointer item)
 
 abbrev pub operand_there : Option Expr → List Expr
 operand_there None = []
