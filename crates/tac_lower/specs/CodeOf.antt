@@ -13,16 +13,16 @@ use Rattle.tac_ir.specs.declared.code.Instr.{Instr}
 use Rattle.tac_ir.specs.declared.code.Lined.{Lined}
 use Rattle.tac_lower.specs.declared.draft.Numbers.{Numbers}
 use Rattle.tac_lower.specs.declared.draft.Draft.{Draft}
-use Rattle.tac_lower.specs.Values.{struct_sizes}
+use Rattle.tac_lower.specs.Values.{sizes_in}
 use Rattle.tac_lower.specs.Functions.{drafts_from}
 use Rattle.tac_lower.specs.Shapes.{shapes_of, shape_number}
 
 abbrev pub sizes_of : Typed → List ℕ
-sizes_of t = struct_sizes t.structs
+sizes_of t = sizes_in t.structs
 
 -- each global has a starting definition, from 1 on
 abbrev pub first_numbers : Typed → Numbers
-first_numbers t = record { temp = 0; def = suc (length t.globals); read = 1; site = 0; at = 0 }
+first_numbers t = record { temp = 0; def = suc (length t.globals); read = 1; at = 0 }
 
 abbrev pub drafts_of : Typed → List (List Draft)
 drafts_of t = drafts_from (sizes_of t) t.main 0 (first_numbers t) t.functions

@@ -40,7 +40,7 @@ no_loop = record { leave = 0; again = 0 }
 
 -- a function's temporaries and indexes begin anew
 abbrev pub first_of : Function → Numbers → Numbers
-first_of f n = record { temp = f.parameters; def = n.def; read = n.read; site = n.site; at = 0 }
+first_of f n = record { temp = f.parameters; def = n.def; read = n.read; at = 0 }
 
 abbrev pub around : List ℕ → ℕ → ℕ → Around
 around sizes main k = record { sizes = sizes; in_main = nat_eq k main }

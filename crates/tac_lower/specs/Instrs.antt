@@ -17,25 +17,22 @@ draft_of line i t = record { line = line; instr = i; object = Some t }
 
 -- What is taken.
 abbrev pub no_number : Taken
-no_number = record { temp = false; def = false; read = false; site = false }
+no_number = record { temp = false; def = false; read = false }
 
 abbrev pub a_temp : Taken
-a_temp = record { temp = true; def = false; read = false; site = false }
+a_temp = record { temp = true; def = false; read = false }
 
 abbrev pub a_def : Taken
-a_def = record { temp = false; def = true; read = false; site = false }
+a_def = record { temp = false; def = true; read = false }
 
 abbrev pub a_temp_and_def : Taken
-a_temp_and_def = record { temp = true; def = true; read = false; site = false }
+a_temp_and_def = record { temp = true; def = true; read = false }
 
 abbrev pub a_read : Taken
-a_read = record { temp = false; def = false; read = true; site = false }
+a_read = record { temp = false; def = false; read = true }
 
 abbrev pub a_temp_and_read : Taken
-a_temp_and_read = record { temp = true; def = false; read = true; site = false }
-
-abbrev pub a_temp_and_site : Taken
-a_temp_and_site = record { temp = true; def = false; read = false; site = true }
+a_temp_and_read = record { temp = true; def = false; read = true }
 
 -- an instruction that writes a fresh temporary
 abbrev pub fresh : ℕ → (ℕ → Instr) → Part ℕ
@@ -86,8 +83,9 @@ store line a b = one a_def (λ n. draft line (Instr.Store a b n.def))
 abbrev pub same : ℕ → Bool → ℕ → ℕ → Part ℕ
 same line ne a b = fresh line (λ t. Instr.Same t ne a b)
 
-abbrev pub new : ℕ → ObjectType → ℕ → Part ℕ
-new line item a = one a_temp_and_site (λ n. draft_of line (Instr.New n.temp a n.site) item)
+-- a block of so many items of this type, at this heap site
+abbrev pub new : ℕ → ℕ → ObjectType → ℕ → Part ℕ
+new line site item a = one a_temp (λ n. draft_of line (Instr.New n.temp a site) item)
 
 abbrev pub call : ℕ → ℕ → List ℕ → Part ℕ
 call line f args = one a_temp_and_def (λ n. draft line (Instr.Call n.temp f n.def args))

@@ -7,4 +7,5 @@ pub mod Shapes
 pub mod CodeOf
 pub mod Limits
 pub mod Lowers
+pub mod Laws
 pub mod tools

@@ -28,7 +28,6 @@ behind k n = record {
   temp = bumped k.temp n.temp;
   def = bumped k.def n.def;
   read = bumped k.read n.read;
-  site = bumped k.site n.site;
   at = n.at + 1;
 }
 

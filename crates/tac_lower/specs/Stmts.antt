@@ -1,8 +1,6 @@
 -- Statements (C99 6.8, and `par`), one case for each form.
-use Rattle.std.specs.Prelude.{ℕ, suc, ◌+◌, pos, Bool, true, false, List, [], ◌∷◌, map, sum, Option, Some, None}
+use Rattle.std.specs.Prelude.{ℕ, ◌+◌, pos, Bool, true, false, List, [], ◌∷◌, map, sum, Option, Some, None}
 use Rattle.c_ast.specs.declared.stmt.AssignOp.{AssignOp}
-use Rattle.c_typed.specs.declared.types.BaseType.{BaseType}
-use Rattle.c_typed.specs.declared.types.ObjectType.{ObjectType}
 use Rattle.c_typed.specs.declared.types.ExprType.{ExprType}
 use Rattle.c_typed.specs.declared.program.Struct.{Struct}
 use Rattle.c_typed.specs.declared.expr.Expr.{Expr}
@@ -10,14 +8,12 @@ use Rattle.c_typed.specs.declared.stmt.Branch.{Branch}
 use Rattle.c_typed.specs.declared.stmt.Condition.{Condition}
 use Rattle.c_typed.specs.declared.stmt.Stmt.{fold-Stmt, Stmt}
 use Rattle.c_typed.specs.declared.stmt.Stmt.TheOpen.{Stmt-F}
+use Rattle.c_typed.specs.Elaboration.{object_of, scalar_of, update}
 use Rattle.tac_ir.specs.declared.code.Instr.{Instr}
-use Rattle.tac_ir.specs.declared.code.BinOp.{BinOp}
 use Rattle.tac_lower.specs.declared.draft.Ends.{Ends}
-use Rattle.tac_lower.specs.declared.plan.Plan.{Plan}
 use Rattle.tac_lower.specs.Parts.{Part, given, from_here, within, in_turn, ◌▷◌, ◌⨟◌}
 use Rattle.tac_lower.specs.Instrs.{quiet, constant, get, load, set, store, test, skip, jump, last_return, linked_return}
-use Rattle.tac_lower.specs.Values as values
-use Rattle.tac_lower.specs.Values.{Yield, Lowered, onward, expr, value, truth, object_of, difference, carried, struct_sizes}
+use Rattle.tac_lower.specs.Values.{Yield, Lowered, onward, expr, value, truth, carried, sizes_in}
 
 -- What a statement's code depends on: the words of each struct, and whether it stands in `main`.
 pub record Around : Type 0 where
@@ -25,7 +21,7 @@ pub record Around : Type 0 where
   pub in_main : Bool
 
 abbrev pub around_by : List Struct → Bool → Around
-around_by structs in_main = record { sizes = struct_sizes structs; in_main = in_main }
+around_by structs in_main = record { sizes = sizes_in structs; in_main = in_main }
 
 -- The target's address is found before the value.
 abbrev pub assigned : ℕ → Yield → Part ℕ → Part ℕ
@@ -37,35 +33,9 @@ updated line y v op =
     onward (λ p. get line p ▷ λ old. v ▷ λ b. op old b ▷ λ c. set line p c)
     (λ a. load line a ▷ λ old. v ▷ λ b. op old b ▷ λ c. store line a c) y
 
--- the type of what stands at a place: a pointer, else an int
-abbrev pub scalar_by : BaseType → ℕ → List ℕ → ExprType
-scalar_by base (suc n) [] = ExprType.Pointer (record { base = base; stars = n; lengths = [] })
-scalar_by base _ _ = ExprType.Int
-
-abbrev pub scalar_of : ObjectType → ExprType
-scalar_of t = scalar_by t.base t.stars t.lengths
-
+-- the type of the value at a place
 abbrev pub scalar_at : ExprType → ExprType
 scalar_at t = scalar_of (object_of t)
-
--- (a plain assignment has no operator)
-abbrev pub operator : AssignOp → BinOp
-operator AssignOp.Plain = BinOp.Add
-operator AssignOp.Add = BinOp.Add
-operator AssignOp.Sub = BinOp.Sub
-operator AssignOp.Mul = BinOp.Mul
-operator AssignOp.Div = BinOp.Quo
-operator AssignOp.Rem = BinOp.Rem
-operator AssignOp.BitAnd = BinOp.And
-operator AssignOp.BitOr = BinOp.Or
-operator AssignOp.BitXor = BinOp.Xor
-operator AssignOp.ShiftLeft = BinOp.Shl
-operator AssignOp.ShiftRight = BinOp.Shr
-
-abbrev pub update : List ℕ → AssignOp → ExprType → Plan
-update sizes AssignOp.Add t = values.sum sizes t ExprType.Int
-update sizes AssignOp.Sub t = difference sizes t
-update sizes op t = Plan.Compute (operator op)
 
 abbrev pub compound : ℕ → List ℕ → AssignOp → Lowered → Part ℕ → Part ℕ
 compound line sizes op target v = updated line (target.yield line) v (carried line (update sizes op (scalar_at target.typing)))

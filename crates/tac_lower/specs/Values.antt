@@ -1,20 +1,19 @@
 -- Expressions (C99 6.5), one case for each form. Operands come in the order of the text.
 use Rattle.std.specs.Prelude.{ℕ, ◌+◌, pos, Bool, true, false, List, [], ◌∷◌, ◌++◌, map, Option, Some, None}
 use Rattle.c_ast.specs.declared.expr.BinaryOp.{BinaryOp}
-use Rattle.c_typed.specs.declared.types.BaseType.{BaseType}
 use Rattle.c_typed.specs.declared.types.ObjectType.{ObjectType}
 use Rattle.c_typed.specs.declared.types.ExprType.{ExprType}
 use Rattle.c_typed.specs.declared.expr.PrefixOp.{PrefixOp}
 use Rattle.c_typed.specs.declared.expr.Expr.{fold-Expr, Expr}
 use Rattle.c_typed.specs.declared.expr.Form.TheOpen.{Form-F}
-use Rattle.c_typed.specs.declared.program.Struct.{Struct}
 use Rattle.c_typed.specs.Types.{words_of}
+pub use Rattle.c_typed.specs.IsWell.{sizes_in}
+use Rattle.c_typed.specs.Elaboration as elaboration
+use Rattle.c_typed.specs.Elaboration.{object_of, Truth, truth_of, Operation, Skips, skips}
 use Rattle.tac_ir.specs.declared.code.Instr.{Instr}
 use Rattle.tac_ir.specs.declared.code.BinOp.{BinOp}
 use Rattle.tac_ir.specs.declared.code.UnOp.{UnOp}
 use Rattle.tac_ir.specs.declared.code.Place.{Place}
-use Rattle.tac_lower.specs.declared.plan.Plan.{Plan}
-use Rattle.tac_lower.specs.declared.plan.Logic.{Logic}
 use Rattle.tac_lower.specs.Parts.{Part, given, chained, gathered, ◌▷◌, ◌⨟◌}
 use Rattle.tac_lower.specs.Instrs.{fresh, constant, null, prefixed, computed, address, field, decay, index, get, load, same, new, call, test, test_past, skip, zero_again}
 
@@ -36,27 +35,11 @@ onward d l (left p) = p ▷ l
 
 -- (where a temporary is wanted there is no direct place)
 abbrev pub temp : Yield → Part ℕ
-temp = onward (λ p. given 0) given
+temp (direct p) = given 0
+temp (left p) = p
 
 abbrev pub value : ℕ → Lowered → Part ℕ
 value line e = temp (e.yield line)
-
--- Types.
-abbrev pub struct_sizes : List Struct → List ℕ
-struct_sizes structs = map (λ s. s.words) structs
-
-abbrev pub an_int : ObjectType
-an_int = record { base = BaseType.Int; stars = 0; lengths = [] }
-
--- what stands at a place or behind a pointer
-abbrev pub object_of : ExprType → ObjectType
-object_of (ExprType.Place t) = t
-object_of (ExprType.Pointer t) = t
-object_of _ = an_int
-
-abbrev pub is_int : ExprType → Bool
-is_int ExprType.Int = true
-is_int _ = false
 
 -- Places.
 abbrev pub deeper : Place → ℕ → Place
@@ -80,40 +63,26 @@ first_item line array y = pointer_to line y ▷ λ a. decay line array a
 abbrev pub against_null : ℕ → Bool → ℕ → Part ℕ
 against_null line ne a = null line ▷ λ n. same line ne a n
 
-abbrev pub truth_as : ℕ → Bool → ℕ → Part ℕ
-truth_as line true a = given a
-truth_as line false a = against_null line true a
+abbrev pub truth_as : ℕ → Truth → ℕ → Part ℕ
+truth_as line Truth.not_zero a = given a
+truth_as line Truth.not_null a = against_null line true a
 
 abbrev pub truth_by : ℕ → ExprType → ℕ → Part ℕ
-truth_by line t a = truth_as line (is_int t) a
+truth_by line t a = truth_as line (truth_of t) a
 
 abbrev pub truth : ℕ → Lowered → Part ℕ
 truth line e = value line e ▷ λ a. truth_by line e.typing a
 
-abbrev pub negation : ℕ → Bool → ℕ → Part ℕ
-negation line true a = prefixed line UnOp.Not a
-negation line false a = against_null line false a
+abbrev pub negation : ℕ → Truth → ℕ → Part ℕ
+negation line Truth.not_zero a = prefixed line UnOp.Not a
+negation line Truth.not_null a = against_null line false a
 
 abbrev pub prefix : ℕ → PrefixOp → ExprType → ℕ → Part ℕ
 prefix line PrefixOp.Minus t a = prefixed line UnOp.Neg a
 prefix line PrefixOp.Complement t a = prefixed line UnOp.Com a
-prefix line PrefixOp.Not t a = negation line (is_int t) a
+prefix line PrefixOp.Not t a = negation line (truth_of t) a
 
--- Operators: two ints are computed, a pointer is moved by items (back, by the negated number), two pointers are compared.
-abbrev pub sum : List ℕ → ExprType → ExprType → Plan
-sum sizes (ExprType.Pointer t) u = Plan.Move (words_of sizes t)
-sum sizes s (ExprType.Pointer u) = Plan.MoveRight (words_of sizes u)
-sum sizes s u = Plan.Compute BinOp.Add
-
-abbrev pub difference : List ℕ → ExprType → Plan
-difference sizes (ExprType.Pointer t) = Plan.MoveBack (words_of sizes t)
-difference sizes s = Plan.Compute BinOp.Sub
-
-abbrev pub equality : Bool → BinOp → ExprType → Plan
-equality ne op ExprType.Int = Plan.Compute op
-equality ne op _ = Plan.Compare ne
-
--- (sums, differences and equalities of two ints too; `&&` and `||` have a form of their own)
+-- Operators. (`&&` and `||` have a form of their own.)
 abbrev pub operator : BinaryOp → BinOp
 operator BinaryOp.Or = BinOp.Or
 operator BinaryOp.And = BinOp.And
@@ -134,19 +103,14 @@ operator BinaryOp.Mul = BinOp.Mul
 operator BinaryOp.Div = BinOp.Quo
 operator BinaryOp.Rem = BinOp.Rem
 
-abbrev pub plan : List ℕ → BinaryOp → ExprType → ExprType → Plan
-plan sizes BinaryOp.Add s u = sum sizes s u
-plan sizes BinaryOp.Sub s u = difference sizes s
-plan sizes BinaryOp.Equal s u = equality false BinOp.Eq s
-plan sizes BinaryOp.NotEqual s u = equality true BinOp.Ne s
-plan sizes op s u = Plan.Compute (operator op)
-
-abbrev pub carried : ℕ → Plan → ℕ → ℕ → Part ℕ
-carried line (Plan.Compute op) a b = computed line op a b
-carried line (Plan.Move words) a b = index line words a b
-carried line (Plan.MoveRight words) a b = index line words b a
-carried line (Plan.MoveBack words) a b = prefixed line UnOp.Neg b ▷ λ n. index line words a n
-carried line (Plan.Compare ne) a b = same line ne a b
+-- a pointer is moved back by the negated number
+abbrev pub carried : ℕ → Operation → ℕ → ℕ → Part ℕ
+carried line (Operation.words op) a b = computed line (operator op) a b
+carried line (Operation.move_up words) a b = index line words a b
+carried line (Operation.move_right_up words) a b = index line words b a
+carried line (Operation.move_down words) a b = prefixed line UnOp.Neg b ▷ λ n. index line words a n
+carried line Operation.same_pointers a b = same line false a b
+carried line Operation.other_pointers a b = same line true a b
 
 -- Two tests and one result: the second operand is skipped where the first decides.
 abbrev pub settled : ℕ → ℕ → Part ℕ
@@ -158,24 +122,18 @@ both line a b = a ▷ λ x. test line x (b.points + 3) ⨟ b ▷ settled line
 abbrev pub either : ℕ → Part ℕ → Part ℕ → Part ℕ
 either line a b = a ▷ λ x. test_past line x (b.points + 1) ⨟ b ▷ settled line
 
--- whether the second operand is always evaluated
-abbrev pub logic : BinaryOp → Logic
-logic BinaryOp.And = Logic.Both
-logic BinaryOp.Or = Logic.Either
-logic _ = Logic.Neither
+abbrev pub binary_by : Skips → List ℕ → BinaryOp → Lowered → Lowered → ℕ → Part ℕ
+binary_by Skips.where_false sizes op l r line = both line (truth line l) (truth line r)
+binary_by Skips.where_true sizes op l r line = either line (truth line l) (truth line r)
+binary_by Skips.never sizes op l r line = value line l ▷ λ a. value line r ▷ λ b. carried line (elaboration.operation sizes op l.typing r.typing) a b
 
-abbrev pub operation_by : Logic → List ℕ → BinaryOp → Lowered → Lowered → ℕ → Part ℕ
-operation_by Logic.Both sizes op l r line = both line (truth line l) (truth line r)
-operation_by Logic.Either sizes op l r line = either line (truth line l) (truth line r)
-operation_by Logic.Neither sizes op l r line = value line l ▷ λ a. value line r ▷ λ b. carried line (plan sizes op l.typing r.typing) a b
-
-abbrev pub operation : List ℕ → BinaryOp → Lowered → Lowered → ℕ → Part ℕ
-operation sizes op l r line = operation_by (logic op) sizes op l r line
+abbrev pub binary : List ℕ → BinaryOp → Lowered → Lowered → ℕ → Part ℕ
+binary sizes op l r line = binary_by (skips op) sizes op l r line
 
 -- `malloc`: a block for one item, or for as many as the count.
-abbrev pub allocation : ℕ → ObjectType → Option Lowered → Part ℕ
-allocation line item None = constant line (pos 1) ▷ λ a. new line item a
-allocation line item (Some count) = value line count ▷ λ a. new line item a
+abbrev pub allocation : ℕ → ℕ → ObjectType → Option Lowered → Part ℕ
+allocation line site item None = constant line (pos 1) ▷ λ a. new line site item a
+allocation line site item (Some count) = value line count ▷ λ a. new line site item a
 
 -- One level of an expression, by its line.
 abbrev pub form_step : List ℕ → Form-F (ℕ → Yield) Lowered → ℕ → Yield
@@ -192,11 +150,11 @@ form_step sizes (Form-F.Read place) line = left (read line (place.yield line))
 form_step sizes (Form-F.Decay place) line = left (first_item line (object_of place.typing) (place.yield line))
 form_step sizes (Form-F.Address place) line = left (pointer_to line (place.yield line))
 form_step sizes (Form-F.Prefix op e) line = left (value line e ▷ λ a. prefix line op e.typing a)
-form_step sizes (Form-F.Binary l op r) line = left (operation sizes op l r line)
+form_step sizes (Form-F.Binary l op r) line = left (binary sizes op l r line)
 form_step sizes (Form-F.Call f args) line = left (chained [] (gathered [] (map (value line) args)) (λ temps. call line f temps))
 form_step sizes Form-F.GetInt line = left (fresh line (λ t. Instr.In t))
 form_step sizes Form-F.Left line = left (fresh line (λ t. Instr.Left t))
-form_step sizes (Form-F.New site item count) line = left (allocation line item count)
+form_step sizes (Form-F.New site item count) line = left (allocation line site item count)
 
 -- an expression, by the words of each struct
 unfoldable pub expr : List ℕ → Expr → Lowered

@@ -1,4 +1,5 @@
 pub mod Emits
+pub mod Plans
 pub mod Keys
 pub mod Interning
 pub mod Counting

@@ -8,18 +8,17 @@ ghost use Rattle.tac_lower.specs.Stmts as spec;
 
 use crate::draft::Ends;
 use crate::stmts::NO_LOOP;
+use crate::structs::Structs;
 use crate::writer::{Stop, Writer};
-use c_typed::{Branch, Stmt, Struct};
+use c_typed::{Branch, Stmt};
 use sqlite_items::Items;
-use std::alloc::Global;
 use tac_ir::Instr;
 
 impl Writer {
     #[cycle(stmts)]
     pub(crate) fn par(
         &mut self,
-        alloc: Global,
-        structs: &[Struct],
+        structs: &Structs,
         in_main: bool,
         ends: Ends,
         line: u32,
@@ -27,30 +26,29 @@ impl Writer {
     ) -> Result<u32, Stop>
         ensures { Emits (spec.branches line (map (branch (spec.around_by structs.now in_main)) branches.now)) ends self.old self.new result }
     {
-        let fork = self.fork(alloc, structs, in_main, branches)?;
+        let fork = self.fork(structs, in_main, branches)?;
         self.quiet(line, fork)?;
-        self.branches(alloc, structs, in_main, ends, branches)
+        self.branches(structs, in_main, ends, branches)
     }
 
     /// The fork in front of these branches. That of a dry run is not kept.
     #[cycle(stmts)]
     fn fork(
         &self,
-        alloc: Global,
-        structs: &[Struct],
+        structs: &Structs,
         in_main: bool,
         branches: &[Branch<Stmt>],
     ) -> Result<Instr, Stop>
         ensures { Forks (map (branch (spec.around_by structs.now in_main)) branches.now) self.now result }
     {
-        let mut entries = Items::new(alloc);
+        let mut entries = Items::new(structs.alloc());
         let mut join = self.next.at + 1;
         if self.dry {
             return Ok(Instr::Fork { join, entries });
         }
         for b in branches {
             entries.push(join)?;
-            let points = self.branch_points(alloc, structs, in_main, &b.body, b.close.0)?;
+            let points = self.branch_points(structs, in_main, &b.body, b.close.0)?;
             join += points;
             if join > self.room {
                 return Err(Stop::Full);
@@ -63,16 +61,15 @@ impl Writer {
     #[cycle(stmts)]
     fn branch_points(
         &self,
-        alloc: Global,
-        structs: &[Struct],
+        structs: &Structs,
         in_main: bool,
         body: &Items<Stmt>,
         close: u32,
     ) -> Result<u32, Stop>
         ensures { Counts (closed (spec.around_by structs.now in_main) body.now close) self.now result }
     {
-        let mut run = self.dry_run(alloc);
-        run.branch(alloc, structs, in_main, NO_LOOP, body, close)?;
+        let mut run = self.dry_run(structs.alloc());
+        run.branch(structs, in_main, NO_LOOP, body, close)?;
         Ok(run.next.at - self.next.at)
     }
 
@@ -80,8 +77,7 @@ impl Writer {
     #[cycle(stmts)]
     fn branch(
         &mut self,
-        alloc: Global,
-        structs: &[Struct],
+        structs: &Structs,
         in_main: bool,
         ends: Ends,
         body: &Items<Stmt>,
@@ -89,15 +85,14 @@ impl Writer {
     ) -> Result<u32, Stop>
         ensures { Emits (closed (spec.around_by structs.now in_main) body.now close) ends self.old self.new result }
     {
-        self.stmts(alloc, structs, in_main, ends, body.as_slice())?;
+        self.stmts(structs, in_main, ends, body.as_slice())?;
         self.quiet(close, Instr::End)
     }
 
     #[cycle(stmts)]
     fn branches(
         &mut self,
-        alloc: Global,
-        structs: &[Struct],
+        structs: &Structs,
         in_main: bool,
         ends: Ends,
         branches: &[Branch<Stmt>],
@@ -105,7 +100,7 @@ impl Writer {
         ensures { Emits (in_turn (map (branch (spec.around_by structs.now in_main)) branches.now)) ends self.old self.new result }
     {
         for b in branches {
-            self.branch(alloc, structs, in_main, ends, &b.body, b.close.0)?;
+            self.branch(structs, in_main, ends, &b.body, b.close.0)?;
         }
         Ok(0)
     }

@@ -6,13 +6,12 @@ ghost use Rattle.tac_lower.specs.Parts.{behind, bumped};
 use c_typed::ObjectType;
 use tac_ir::Instr;
 
-/// The next temporary, definition, read, heap site and index.
+/// The next temporary, definition, read and index.
 #[derive(Clone, Copy)]
 pub struct Numbers {
     pub temp: u32,
     pub def: u32,
     pub read: u32,
-    pub site: u32,
     pub at: u32,
 }
 
@@ -22,7 +21,6 @@ pub struct Taken {
     pub temp: bool,
     pub def: bool,
     pub read: bool,
-    pub site: bool,
 }
 
 /// An instruction and its line. Where it names a shape or makes a heap site, `object` is the type of that shape; the number of
@@ -54,7 +52,6 @@ impl Numbers {
         requires temp { self.temp < 4294967295 }
         requires def { self.def < 4294967295 }
         requires read { self.read < 4294967295 }
-        requires site { self.site < 4294967295 }
         requires at { self.at < 4294967295 }
         ensures { result ≡ behind taken self }
     {
@@ -62,7 +59,6 @@ impl Numbers {
             temp: bump(self.temp, taken.temp),
             def: bump(self.def, taken.def),
             read: bump(self.read, taken.read),
-            site: bump(self.site, taken.site),
             at: self.at + 1,
         }
     }

@@ -5,6 +5,7 @@ ghost use Rattle.tac_lower.specs.CodeOf.{code_with};
 ghost use Rattle.tac_lower.specs.tools.Interning.{joined};
 
 use crate::draft::Draft;
+use crate::structs::Structs;
 use crate::types::Interner;
 use c_typed::{Function, Typed};
 use dfi_base::Memory;
@@ -58,13 +59,14 @@ pub(crate) fn finish(
 ) -> Result<Code, Memory>
     ensures { IfOk result (λ code. code ≡ code_with program.now drafts) }
 {
-    let structs = program.structs.as_slice();
+    let items = program.structs.as_slice();
+    let structs = Structs::new(alloc, items);
     let functions = program.functions.as_slice();
-    let mut interner = Interner::new(alloc, structs)?;
-    let globals = interner.globals(alloc, structs, program.globals.as_slice())?;
-    let frames = interner.frames(alloc, structs, functions)?;
-    let sites = interner.sites(alloc, structs, drafts.as_slice())?;
-    let lines = interner.lines(alloc, structs, drafts)?;
+    let mut interner = Interner::new(&structs)?;
+    let globals = interner.globals(&structs, program.globals.as_slice())?;
+    let frames = interner.frames(&structs, functions)?;
+    let sites = interner.sites(&structs, drafts.as_slice())?;
+    let lines = interner.lines(&structs, drafts)?;
     let funs = join(alloc, functions, frames, lines)?;
     let shapes = interner.shapes.into_items(alloc)?;
     Ok(Code {

@@ -7,18 +7,17 @@ ghost use Rattle.tac_lower.specs.tools.Nested.{guarded, skipped};
 ghost use Rattle.tac_lower.specs.Stmts as spec;
 
 use crate::draft::Ends;
+use crate::structs::Structs;
 use crate::writer::{Stop, Writer};
-use c_typed::{Condition, Stmt, Struct};
+use c_typed::{Condition, Stmt};
 use sqlite_items::Boxed;
-use std::alloc::Global;
 
 impl Writer {
     /// A condition and what it guards. The test goes past so many more.
     #[cycle(stmts)]
     pub(crate) fn when(
         &mut self,
-        alloc: Global,
-        structs: &[Struct],
+        structs: &Structs,
         in_main: bool,
         ends: Ends,
         condition: &Condition,
@@ -28,17 +27,16 @@ impl Writer {
         requires { more ≤ 1 }
         ensures { Emits (guarded (spec.around_by structs.now in_main) condition.now first.now more) ends self.old self.new result }
     {
-        let past = self.points(alloc, structs, in_main, first)?;
-        self.condition(alloc, structs, condition, past + more)?;
-        self.stmt(alloc, structs, in_main, ends, first.get())
+        let past = self.points(structs, in_main, first)?;
+        self.condition(structs, condition, past + more)?;
+        self.stmt(structs, in_main, ends, first.get())
     }
 
     /// What stands behind `else`, with the jump past it.
     #[cycle(stmts)]
     pub(crate) fn otherwise(
         &mut self,
-        alloc: Global,
-        structs: &[Struct],
+        structs: &Structs,
         in_main: bool,
         ends: Ends,
         line: u32,
@@ -46,16 +44,15 @@ impl Writer {
     ) -> Result<u32, Stop>
         ensures { Emits (skipped (spec.around_by structs.now in_main) line second.now) ends self.old self.new result }
     {
-        let past = self.points(alloc, structs, in_main, second)?;
+        let past = self.points(structs, in_main, second)?;
         self.skip(line, past)?;
-        self.stmt(alloc, structs, in_main, ends, second.get())
+        self.stmt(structs, in_main, ends, second.get())
     }
 
     #[cycle(stmts)]
     pub(crate) fn while_loop(
         &mut self,
-        alloc: Global,
-        structs: &[Struct],
+        structs: &Structs,
         in_main: bool,
         line: u32,
         condition: &Condition,
@@ -65,21 +62,20 @@ impl Writer {
     {
         let head = self.next.at;
         self.turn(line)?;
-        let past = self.points(alloc, structs, in_main, body)?;
-        self.condition(alloc, structs, condition, past + 1)?;
+        let past = self.points(structs, in_main, body)?;
+        self.condition(structs, condition, past + 1)?;
         let round = Ends {
             leave: self.next.at + past + 1,
             again: head,
         };
-        self.stmt(alloc, structs, in_main, round, body.get())?;
+        self.stmt(structs, in_main, round, body.get())?;
         self.jump(line, head)
     }
 
     /// The condition of a `for`, if there is one.
     pub(crate) fn guard(
         &mut self,
-        alloc: Global,
-        structs: &[Struct],
+        structs: &Structs,
         condition: &Option<Condition>,
         past: u32,
     ) -> Result<u32, Stop>
@@ -88,7 +84,7 @@ impl Writer {
     {
         match condition {
             None => Ok(0),
-            Some(condition) => self.condition(alloc, structs, condition, past),
+            Some(condition) => self.condition(structs, condition, past),
         }
     }
 }

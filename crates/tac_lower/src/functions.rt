@@ -1,9 +1,10 @@
 //! Functions (C99 6.9.1), and the drafts of all of them.
 
-ghost use Rattle.std.specs.Prelude.{take, ◌+◌, ◌≤◌, ◌≡◌};
+ghost use Rattle.std.specs.Prelude.{take, ◌+◌, ◌<◌, ◌≤◌, ◌≡◌};
+ghost use Rattle.c_typed.specs.IsWell.{IsWell};
 ghost use Rattle.tac_lower.specs.declared.draft.Ends.{Ends};
 ghost use Rattle.tac_lower.specs.CodeOf.{first_numbers};
-ghost use Rattle.tac_lower.specs.tools.Drafted.{Begins, Writes, Drafts, fault_of, is_pointer};
+ghost use Rattle.tac_lower.specs.tools.Drafted.{IsBegun, Writes, Drafts, fault_of, is_pointer};
 ghost use Rattle.tac_lower.specs.tools.Emits.{Emits};
 ghost use Rattle.tac_lower.specs.Functions as spec;
 ghost use Rattle.tac_lower.specs.Parts.{in_turn};
@@ -13,18 +14,14 @@ use crate::draft::{Draft, Numbers};
 use crate::fault::{LowerFault, LowerWhat};
 use crate::progress::Progress;
 use crate::stmts::NO_LOOP;
+use crate::structs::Structs;
 use crate::writer::{Stop, Writer};
-use c_typed::{Function, ObjectType, Struct, Typed, Variable};
+use c_typed::{Function, ObjectType, Typed, Variable};
 use dfi_base::Line;
+use dfi_base::limits::POINT_LIMIT;
 use sqlite_items::Items;
 use std::alloc::Global;
 use tac_ir::{Instr, Place};
-
-/// The most instructions of a program.
-const POINT_LIMIT: u32 = 16384;
-
-/// More parameters or globals than any typed program has.
-const MANY: u32 = 2147483648;
 
 impl Writer {
     /// The arguments are written to the parameters.
@@ -55,17 +52,11 @@ impl Writer {
         }
     }
 
-    fn function(
-        &mut self,
-        alloc: Global,
-        structs: &[Struct],
-        in_main: bool,
-        f: &Function,
-    ) -> Result<u32, Stop>
+    fn function(&mut self, structs: &Structs, in_main: bool, f: &Function) -> Result<u32, Stop>
         ensures { Emits (spec.function (around_by structs.now in_main) f.now) spec.no_loop self.old self.new result }
     {
-        self.parameters(alloc, parameters_of(f))?;
-        self.stmts(alloc, structs, in_main, NO_LOOP, f.body.as_slice())?;
+        self.parameters(structs.alloc(), parameters_of(f))?;
+        self.stmts(structs, in_main, NO_LOOP, f.body.as_slice())?;
         let a = self.default_value(f.close.0, &f.result)?;
         self.give_back(in_main, f.close.0, a)
     }
@@ -92,52 +83,45 @@ fn parameters_of(f: &Function) -> &[Variable]
 
 impl Progress {
     /// Before the first function; each global has a starting definition.
-    fn new(globals: usize) -> Result<Progress, Stop>
-        ensures { Begins globals result }
+    fn new(globals: usize) -> Progress
+        requires { globals < 2147483648 }
+        ensures { IsBegun globals result }
     {
-        if globals >= MANY as usize {
-            return Err(Stop::Memory);
-        }
         let next = Numbers {
             temp: 0,
             def: globals as u32 + 1,
             read: 1,
-            site: 0,
             at: 0,
         };
-        Ok(Progress {
+        Progress {
             next,
             room: POINT_LIMIT,
-        })
+        }
     }
 
     /// The drafts of the next function.
     fn function(
         &mut self,
-        alloc: Global,
-        structs: &[Struct],
+        structs: &Structs,
         in_main: bool,
         f: &Function,
     ) -> Result<Items<Draft>, Stop>
+        requires { f.now.parameters ≤ 2147483648 }
         ensures { Writes (spec.function (around_by structs.now in_main) f.now) f.now self.old self.new result }
     {
-        if f.parameters > MANY {
-            return Err(Stop::Memory);
-        }
         let next = Numbers {
             temp: f.parameters,
             def: self.next.def,
             read: self.next.read,
-            site: self.next.site,
             at: 0,
         };
         let mut writer = Writer {
-            drafts: Items::new(alloc),
+            drafts: Items::new(structs.alloc()),
             next,
             room: self.room,
             dry: false,
         };
-        writer.function(alloc, structs, in_main, f)?;
+        writer.function(structs, in_main, f)?;
         self.next = writer.next;
         self.room -= writer.next.at;
         Ok(writer.drafts)
@@ -161,17 +145,17 @@ pub(crate) fn emit_functions(
     alloc: Global,
     program: &Typed,
 ) -> Result<Items<Items<Draft>>, LowerFault>
+    requires { IsWell program.now }
     ensures { Drafts program.now result }
 {
-    let Ok(mut progress) = Progress::new(program.globals.len()) else {
-        return Err(LowerFault::Memory);
-    };
-    let structs = program.structs.as_slice();
+    let mut progress = Progress::new(program.globals.len());
+    let items = program.structs.as_slice();
+    let structs = Structs::new(alloc, items);
     let functions = program.functions.as_slice();
     let mut drafts = Items::new(alloc);
     for (k, f) in functions.iter().enumerate() {
         let in_main = k == program.main as usize;
-        match progress.function(alloc, structs, in_main, f) {
+        match progress.function(&structs, in_main, f) {
             Ok(function) => drafts.push(function)?,
             Err(stop) => return Err(fault(stop, f.line)),
         }

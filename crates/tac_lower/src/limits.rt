@@ -7,14 +7,11 @@ ghost use Rattle.tac_lower.specs.tools.Counting.{AreNodes, capped, capped_share,
 ghost use Rattle.tac_lower.specs.Limits as spec;
 
 use crate::fault::{LowerFault, LowerWhat};
+use dfi_base::limits::{DEFINITION_LIMIT, NODE_LIMIT};
 use dfi_base::{Line, Memory};
 use std::alloc;
 use std::marker::Model;
 use tac_ir::{Code, Fun, Global, Instr, Lined, Shape, Site};
-
-const DEF_LIMIT: u32 = 4096;
-
-const NODE_LIMIT: u32 = 16384;
 
 /// So many, at a line. The greatest number stands for all above it too.
 #[derive(Clone, Copy)]
@@ -189,7 +186,7 @@ fn defs_passing(alloc: alloc::Global, code: &Code) -> Result<Option<u32>, Memory
     let mut shares = Vec::new(alloc);
     add_starting(&mut shares, code.globals.as_slice())?;
     add_defs(&mut shares, code.funs.as_slice())?;
-    Ok(passing(DEF_LIMIT, shares.as_slice()))
+    Ok(passing(DEFINITION_LIMIT, shares.as_slice()))
 }
 
 /// The line with which the nodes pass their limit.

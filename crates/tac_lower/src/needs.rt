@@ -6,11 +6,11 @@ ghost use Rattle.tac_lower.specs.tools.Interning.{IsKept, Interned, is_new, with
 
 use crate::draft::Draft;
 use crate::finish::reversed;
+use crate::structs::Structs;
 use crate::types::Interner;
-use c_typed::{Function, Global, Struct, Variable};
+use c_typed::{Function, Global, Variable};
 use dfi_base::Memory;
 use sqlite_items::Items;
-use std::alloc;
 use tac_ir::{Instr, Lined, Site};
 
 fn is_new(instr: &Instr) -> bool
@@ -33,16 +33,15 @@ fn with_shape(instr: Instr, shape: u32) -> Instr
 impl Interner {
     pub(crate) fn globals(
         &mut self,
-        alloc: alloc::Global,
-        structs: &[Struct],
+        structs: &Structs,
         globals: &[Global],
     ) -> Result<Items<tac_ir::Global>, Memory>
         requires { IsKept structs.now self.old.known.items self.old.shapes }
         ensures { IfOk result (λ made. Interned structs.now (map (λ g. g.object) globals.now) (λ shape. map (spec.global_of shape) globals.now) self.old self.new made) }
     {
-        let mut made = Items::new(alloc);
+        let mut made = Items::new(structs.alloc());
         for global in globals {
-            let shape = self.number(alloc, structs, &global.object)?;
+            let shape = self.number(structs, &global.object)?;
             made.push(tac_ir::Global {
                 shape,
                 start: global.start,
@@ -52,18 +51,13 @@ impl Interner {
         Ok(made)
     }
 
-    fn variables(
-        &mut self,
-        alloc: alloc::Global,
-        structs: &[Struct],
-        variables: &[Variable],
-    ) -> Result<Items<u32>, Memory>
+    fn variables(&mut self, structs: &Structs, variables: &[Variable]) -> Result<Items<u32>, Memory>
         requires { IsKept structs.now self.old.known.items self.old.shapes }
         ensures { IfOk result (λ made. Interned structs.now (map (λ v. v.object) variables.now) (λ shape. map (λ v. shape v.object) variables.now) self.old self.new made) }
     {
-        let mut made = Items::new(alloc);
+        let mut made = Items::new(structs.alloc());
         for variable in variables {
-            let shape = self.number(alloc, structs, &variable.object)?;
+            let shape = self.number(structs, &variable.object)?;
             made.push(shape)?;
         }
         Ok(made)
@@ -72,16 +66,15 @@ impl Interner {
     /// The shapes of the variables of each function.
     pub(crate) fn frames(
         &mut self,
-        alloc: alloc::Global,
-        structs: &[Struct],
+        structs: &Structs,
         functions: &[Function],
     ) -> Result<Items<Items<u32>>, Memory>
         requires { IsKept structs.now self.old.known.items self.old.shapes }
         ensures { IfOk result (λ made. Interned structs.now (spec.variables_in functions.now) (λ shape. map (λ f. map (λ v. shape v.object) f.variables) functions.now) self.old self.new made) }
     {
-        let mut made = Items::new(alloc);
+        let mut made = Items::new(structs.alloc());
         for function in functions {
-            let frame = self.variables(alloc, structs, function.variables.as_slice())?;
+            let frame = self.variables(structs, function.variables.as_slice())?;
             made.push(frame)?;
         }
         Ok(made)
@@ -90,8 +83,7 @@ impl Interner {
     /// Adds the heap site of a draft that has one.
     fn site(
         &mut self,
-        alloc: alloc::Global,
-        structs: &[Struct],
+        structs: &Structs,
         draft: &Draft,
         sites: &mut Items<Site>,
     ) -> Result<(), Memory>
@@ -103,7 +95,7 @@ impl Interner {
             return Ok(());
         }
         if let Some(object) = &draft.object {
-            let shape = self.number(alloc, structs, object)?;
+            let shape = self.number(structs, object)?;
             sites.push(Site {
                 shape,
                 line: draft.line,
@@ -114,8 +106,7 @@ impl Interner {
 
     fn sites_in(
         &mut self,
-        alloc: alloc::Global,
-        structs: &[Struct],
+        structs: &Structs,
         drafts: &[Draft],
         sites: &mut Items<Site>,
     ) -> Result<(), Memory>
@@ -124,7 +115,7 @@ impl Interner {
             (λ shape. sites.old ++ map (spec.site_of shape) (spec.sites_in drafts.now)) self.old self.new sites.new) }
     {
         for draft in drafts {
-            self.site(alloc, structs, draft, sites)?;
+            self.site(structs, draft, sites)?;
         }
         Ok(())
     }
@@ -132,28 +123,22 @@ impl Interner {
     /// The heap sites of all functions.
     pub(crate) fn sites(
         &mut self,
-        alloc: alloc::Global,
-        structs: &[Struct],
+        structs: &Structs,
         drafts: &[Items<Draft>],
     ) -> Result<Items<Site>, Memory>
         requires { IsKept structs.now self.old.known.items self.old.shapes }
         ensures { IfOk result (λ made. Interned structs.now (map (λ i. i.object) (spec.sites_in (spec.all_of drafts.now)))
             (λ shape. map (spec.site_of shape) (spec.sites_in (spec.all_of drafts.now))) self.old self.new made) }
     {
-        let mut sites = Items::new(alloc);
+        let mut sites = Items::new(structs.alloc());
         for drafts in drafts {
-            self.sites_in(alloc, structs, drafts.as_slice(), &mut sites)?;
+            self.sites_in(structs, drafts.as_slice(), &mut sites)?;
         }
         Ok(sites)
     }
 
     /// The line of a draft, with its shape's number.
-    fn line(
-        &mut self,
-        alloc: alloc::Global,
-        structs: &[Struct],
-        draft: Draft,
-    ) -> Result<Lined, Memory>
+    fn line(&mut self, structs: &Structs, draft: Draft) -> Result<Lined, Memory>
         requires { IsKept structs.now self.old.known.items self.old.shapes }
         ensures { IfOk result (λ made. Interned structs.now (map (λ i. i.object) (spec.need_by draft.line draft.object draft.instr)) (λ shape. spec.finished shape draft) self.old self.new made) }
     {
@@ -164,7 +149,7 @@ impl Interner {
         } = draft;
         match object {
             Some(object) if !is_new(&instr) => {
-                let shape = self.number(alloc, structs, &object)?;
+                let shape = self.number(structs, &object)?;
                 let instr = with_shape(instr, shape);
                 Ok(Lined { line, instr })
             }
@@ -172,19 +157,14 @@ impl Interner {
         }
     }
 
-    fn lines_in(
-        &mut self,
-        alloc: alloc::Global,
-        structs: &[Struct],
-        drafts: Items<Draft>,
-    ) -> Result<Items<Lined>, Memory>
+    fn lines_in(&mut self, structs: &Structs, drafts: Items<Draft>) -> Result<Items<Lined>, Memory>
         requires { IsKept structs.now self.old.known.items self.old.shapes }
         ensures { IfOk result (λ made. Interned structs.now (map (λ i. i.object) (spec.needs_in drafts)) (λ shape. map (spec.finished shape) drafts) self.old self.new made) }
     {
-        let mut left = reversed(alloc, drafts)?;
-        let mut lines = Items::new(alloc);
+        let mut left = reversed(structs.alloc(), drafts)?;
+        let mut lines = Items::new(structs.alloc());
         while let Some(draft) = left.pop() {
-            lines.push(self.line(alloc, structs, draft)?)?;
+            lines.push(self.line(structs, draft)?)?;
         }
         Ok(lines)
     }
@@ -192,17 +172,16 @@ impl Interner {
     /// The lines of each function.
     pub(crate) fn lines(
         &mut self,
-        alloc: alloc::Global,
-        structs: &[Struct],
+        structs: &Structs,
         drafts: Items<Items<Draft>>,
     ) -> Result<Items<Items<Lined>>, Memory>
         requires { IsKept structs.now self.old.known.items self.old.shapes }
         ensures { IfOk result (λ made. Interned structs.now (map (λ i. i.object) (spec.needs_in (spec.all_of drafts))) (λ shape. map (λ ds. map (spec.finished shape) ds) drafts) self.old self.new made) }
     {
-        let mut left = reversed(alloc, drafts)?;
-        let mut lines = Items::new(alloc);
+        let mut left = reversed(structs.alloc(), drafts)?;
+        let mut lines = Items::new(structs.alloc());
         while let Some(drafts) = left.pop() {
-            lines.push(self.lines_in(alloc, structs, drafts)?)?;
+            lines.push(self.lines_in(structs, drafts)?)?;
         }
         Ok(lines)
     }

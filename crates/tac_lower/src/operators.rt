@@ -1,16 +1,43 @@
 //! What follows the operands of an expression.
 
-ghost use Rattle.std.specs.Prelude.{pos};
+ghost use Rattle.std.specs.Prelude.{pos, ◌≡◌};
 ghost use Rattle.tac_lower.specs.declared.draft.Ends.{Ends};
 ghost use Rattle.tac_lower.specs.tools.Emits.{Emits};
-ghost use Rattle.tac_lower.specs.declared.plan.Plan.{Plan};
+ghost use Rattle.c_typed.specs.Elaboration.{Operation};
+ghost use Rattle.tac_lower.specs.tools.Plans.{operation_of, truth_by_int};
 ghost use Rattle.tac_lower.specs.Instrs as spec;
-ghost use Rattle.tac_lower.specs.Values.{against_null, truth_by, negation, prefix, carried, settled};
+ghost use Rattle.tac_lower.specs.Values as values;
+ghost use Rattle.tac_lower.specs.Values.{against_null, truth_by, negation, prefix, carried};
 
 use crate::plan::{Plan, is_int};
 use crate::writer::{Stop, Writer};
+use c_ast::BinaryOp;
 use c_typed::{ExprType, PrefixOp};
-use tac_ir::{Instr, UnOp};
+use tac_ir::{BinOp, Instr, UnOp};
+
+/// The instruction's operator on two words.
+fn operator(op: BinaryOp) -> BinOp
+    ensures { result ≡ values.operator op }
+{
+    match op {
+        BinaryOp::Or | BinaryOp::BitOr => BinOp::Or,
+        BinaryOp::And | BinaryOp::BitAnd => BinOp::And,
+        BinaryOp::BitXor => BinOp::Xor,
+        BinaryOp::Equal => BinOp::Eq,
+        BinaryOp::NotEqual => BinOp::Ne,
+        BinaryOp::Less => BinOp::Lt,
+        BinaryOp::Greater => BinOp::Gt,
+        BinaryOp::LessEqual => BinOp::Le,
+        BinaryOp::GreaterEqual => BinOp::Ge,
+        BinaryOp::ShiftLeft => BinOp::Shl,
+        BinaryOp::ShiftRight => BinOp::Shr,
+        BinaryOp::Add => BinOp::Add,
+        BinaryOp::Sub => BinOp::Sub,
+        BinaryOp::Mul => BinOp::Mul,
+        BinaryOp::Div => BinOp::Quo,
+        BinaryOp::Rem => BinOp::Rem,
+    }
+}
 
 impl Writer {
     pub(crate) fn constant(&mut self, line: u32, k: i32) -> Result<u32, Stop>
@@ -61,7 +88,7 @@ impl Writer {
     }
 
     fn negation(&mut self, line: u32, int: bool, a: u32) -> Result<u32, Stop>
-        ensures { (ends : Ends) → Emits (negation line int a) ends self.old self.new result }
+        ensures { (ends : Ends) → Emits (negation line (truth_by_int int) a) ends self.old self.new result }
     {
         if int {
             self.prefixed(line, UnOp::Not, a)
@@ -86,26 +113,27 @@ impl Writer {
         }
     }
 
-    /// `a`, moved back by `b` items.
+    /// `a`, moved down by `b` items.
     fn back(&mut self, line: u32, words: u32, a: u32, b: u32) -> Result<u32, Stop>
-        ensures { (ends : Ends) → Emits (carried line (Plan.MoveBack words) a b) ends self.old self.new result }
+        ensures { (ends : Ends) → Emits (carried line (Operation.move_down words) a b) ends self.old self.new result }
     {
         let number = self.prefixed(line, UnOp::Neg, b)?;
         self.index(line, words, a, number)
     }
 
     pub(crate) fn carry(&mut self, line: u32, plan: Plan, a: u32, b: u32) -> Result<u32, Stop>
-        ensures { (ends : Ends) → Emits (carried line plan a b) ends self.old self.new result }
+        ensures { (ends : Ends) → Emits (carried line (operation_of plan) a b) ends self.old self.new result }
     {
         match plan {
-            Plan::Compute(op) => {
-                let to = self.next.temp;
+            Plan::Words(op) => {
+                let (to, op) = (self.next.temp, operator(op));
                 self.fresh(line, Instr::Bin { to, op, a, b })
             }
-            Plan::Move { words } => self.index(line, words, a, b),
-            Plan::MoveRight { words } => self.index(line, words, b, a),
-            Plan::MoveBack { words } => self.back(line, words, a, b),
-            Plan::Compare { ne } => self.same(line, ne, a, b),
+            Plan::MoveUp { words } => self.index(line, words, a, b),
+            Plan::MoveRightUp { words } => self.index(line, words, b, a),
+            Plan::MoveDown { words } => self.back(line, words, a, b),
+            Plan::SamePointers => self.same(line, false, a, b),
+            Plan::OtherPointers => self.same(line, true, a, b),
         }
     }
 }

@@ -5,11 +5,12 @@ ghost use Rattle.tac_lower.specs.declared.draft.Ends.{Ends};
 ghost use Rattle.tac_lower.specs.tools.Emits.{Emits, Yields, spots, temp_in, at_spot, part_at};
 ghost use Rattle.tac_lower.specs.Instrs as spec;
 ghost use Rattle.tac_lower.specs.Parts.{given};
-ghost use Rattle.tac_lower.specs.Values.{deeper, object_of};
+ghost use Rattle.c_typed.specs.Elaboration.{object_of};
+ghost use Rattle.tac_lower.specs.Values.{deeper};
 
 use crate::draft::Draft;
 use crate::plan::{copy_of, object_of};
-use crate::writer::{A_TEMP, A_TEMP_AND_DEF, A_TEMP_AND_READ, A_TEMP_AND_SITE, Spot, Stop, Writer};
+use crate::writer::{A_TEMP, A_TEMP_AND_DEF, A_TEMP_AND_READ, Spot, Stop, Writer};
 use c_typed::{ExprType, ObjectType};
 use sqlite_items::Items;
 use std::alloc::{AllocError, Global};
@@ -179,28 +180,29 @@ impl Writer {
         }
     }
 
-    /// A block of `a` items.
+    /// A block of `a` items, at a heap site.
     pub(crate) fn block(
         &mut self,
         alloc: Global,
         line: u32,
+        site: u32,
         item: &ObjectType,
         a: u32,
     ) -> Result<u32, Stop>
-        ensures { (ends : Ends) → Emits (spec.new line item.now a) ends self.old self.new result }
+        ensures { (ends : Ends) → Emits (spec.new line site item.now a) ends self.old self.new result }
     {
         let object = copy_of(alloc, item)?;
         let instr = Instr::New {
             to: self.next.temp,
             a,
-            site: self.next.site,
+            site,
         };
         let draft = Draft {
             line,
             instr,
             object: Some(object),
         };
-        self.put(draft, A_TEMP_AND_SITE)
+        self.put(draft, A_TEMP)
     }
 
     pub(crate) fn call(&mut self, line: u32, fun: u32, args: Items<u32>) -> Result<u32, Stop>

@@ -1,29 +1,32 @@
-//! Which instruction an operator is.
+//! What an operator does.
 
-ghost use Rattle.std.specs.Prelude.{◌≡◌, IfSome, IfOk, MatchResult};
+ghost use Rattle.std.specs.Prelude.{◌≡◌, IfOk, MatchResult};
 ghost use Rattle.c_typed.specs.Types.{words_of, times, item_words, base_words};
 ghost use Rattle.tac_lower.specs.declared.writer.Stop.{Stop};
-ghost use Rattle.tac_lower.specs.Values as spec;
+ghost use Rattle.c_typed.specs.IsWell.{sizes_in};
+ghost use Rattle.c_typed.specs.Elaboration as spec;
+ghost use Rattle.tac_lower.specs.tools.Plans.{operation_of, skips_of, truth_by_int, IsProduct};
 
+use crate::structs::Structs;
 use crate::writer::Stop;
 use c_ast::BinaryOp;
-use c_typed::{BaseType, ExprType, ObjectType, Struct};
+use c_typed::{BaseType, ExprType, ObjectType};
 use sqlite_items::Items;
 use std::alloc::{AllocError, Global};
-use tac_ir::BinOp;
 
-/// How an operator is carried out on two temporaries; `words` are those of the item behind a pointer.
+/// What an operator does with two values; `words` are those of the item behind a pointer.
 #[derive(Clone, Copy)]
 pub enum Plan {
-    Compute(BinOp),
-    /// The left pointer, moved by the right number.
-    Move { words: u32 },
-    /// The right pointer, moved by the left number.
-    MoveRight { words: u32 },
-    /// The left pointer, moved back by the right number.
-    MoveBack { words: u32 },
-    /// Two pointers, for inequality where `ne`.
-    Compare { ne: bool },
+    /// As with two ints.
+    Words(BinaryOp),
+    /// The left pointer up by the right number.
+    MoveUp { words: u32 },
+    /// The right pointer up by the left number.
+    MoveRightUp { words: u32 },
+    /// The left pointer down by the right number.
+    MoveDown { words: u32 },
+    SamePointers,
+    OtherPointers,
 }
 
 /// `&&`, `||`, or an operator that evaluates both operands.
@@ -35,7 +38,7 @@ pub enum Logic {
 }
 
 pub(crate) fn logic_of(op: BinaryOp) -> Logic
-    ensures { result ≡ spec.logic op }
+    ensures { skips_of result ≡ spec.skips op }
 {
     match op {
         BinaryOp::And => Logic::Both,
@@ -44,8 +47,9 @@ pub(crate) fn logic_of(op: BinaryOp) -> Logic
     }
 }
 
+/// Whether a value is true where it is not 0; else it is compared with null.
 pub(crate) fn is_int(typing: &ExprType) -> bool
-    ensures { result ≡ spec.is_int typing.now }
+    ensures { truth_by_int result ≡ spec.truth_of typing.now }
 {
     matches!(typing, ExprType::Int)
 }
@@ -79,7 +83,7 @@ pub(crate) fn copy_of(alloc: Global, object: &ObjectType) -> Result<ObjectType, 
 /// The items of an array of arrays of these lengths, in words; none where the number is too big for a `u32`, which the words of
 /// a typed program never are.
 fn times(lengths: &[u32], words: u32) -> Option<u32>
-    ensures { IfSome result (λ n. n ≡ times lengths.now words) }
+    ensures { IsProduct lengths.now words result }
 {
     match lengths {
         [] => Some(words),
@@ -87,21 +91,18 @@ fn times(lengths: &[u32], words: u32) -> Option<u32>
     }
 }
 
-fn base_words(structs: &[Struct], base: BaseType) -> u32
-    ensures { result ≡ base_words (spec.struct_sizes structs.now) base }
+fn base_words(structs: &Structs, base: BaseType) -> u32
+    ensures { result ≡ base_words (sizes_in structs.now) base }
 {
     match base {
         BaseType::Int => 1,
-        BaseType::Struct(k) => match structs.get(k as usize) {
-            None => 0,
-            Some(found) => found.words,
-        },
+        BaseType::Struct(k) => structs.words(k),
         BaseType::Unknown => 0,
     }
 }
 
-fn item_words(structs: &[Struct], base: BaseType, stars: u64) -> u32
-    ensures { result ≡ item_words (spec.struct_sizes structs.now) base stars }
+fn item_words(structs: &Structs, base: BaseType, stars: u64) -> u32
+    ensures { result ≡ item_words (sizes_in structs.now) base stars }
 {
     if stars > 0 {
         1
@@ -111,8 +112,8 @@ fn item_words(structs: &[Struct], base: BaseType, stars: u64) -> u32
 }
 
 /// The words of a type.
-fn words_of(structs: &[Struct], object: &ObjectType) -> Result<u32, Stop>
-    ensures { MatchResult result (λ n. n ≡ words_of (spec.struct_sizes structs.now) object.now) (λ e. e ≡ Stop.Memory) }
+fn words_of(structs: &Structs, object: &ObjectType) -> Result<u32, Stop>
+    ensures { MatchResult result (λ n. n ≡ words_of (sizes_in structs.now) object.now) (λ e. e ≡ Stop.Memory) }
 {
     let item = item_words(structs, object.base, object.stars);
     match times(object.lengths.as_slice(), item) {
@@ -122,8 +123,8 @@ fn words_of(structs: &[Struct], object: &ObjectType) -> Result<u32, Stop>
 }
 
 /// The words of what stands at a place or behind a pointer.
-pub(crate) fn words_behind(structs: &[Struct], typing: &ExprType) -> Result<u32, Stop>
-    ensures { MatchResult result (λ n. n ≡ words_of (spec.struct_sizes structs.now) (spec.object_of typing.now)) (λ e. e ≡ Stop.Memory) }
+pub(crate) fn words_behind(structs: &Structs, typing: &ExprType) -> Result<u32, Stop>
+    ensures { MatchResult result (λ n. n ≡ words_of (sizes_in structs.now) (spec.object_of typing.now)) (λ e. e ≡ Stop.Memory) }
 {
     match typing {
         ExprType::Place(object) => words_of(structs, object),
@@ -133,80 +134,56 @@ pub(crate) fn words_behind(structs: &[Struct], typing: &ExprType) -> Result<u32,
 }
 
 /// `+`
-pub(crate) fn sum(structs: &[Struct], first: &ExprType, second: &ExprType) -> Result<Plan, Stop>
-    ensures { MatchResult result (λ p. p ≡ spec.sum (spec.struct_sizes structs.now) first.now second.now) (λ e. e ≡ Stop.Memory) }
+pub(crate) fn sum(structs: &Structs, first: &ExprType, second: &ExprType) -> Result<Plan, Stop>
+    ensures { MatchResult result (λ p. operation_of p ≡ spec.sum (sizes_in structs.now) first.now second.now) (λ e. e ≡ Stop.Memory) }
 {
     match (first, second) {
-        (ExprType::Pointer(object), _) => Ok(Plan::Move {
+        (ExprType::Pointer(object), _) => Ok(Plan::MoveUp {
             words: words_of(structs, object)?,
         }),
-        (_, ExprType::Pointer(object)) => Ok(Plan::MoveRight {
+        (_, ExprType::Pointer(object)) => Ok(Plan::MoveRightUp {
             words: words_of(structs, object)?,
         }),
-        _ => Ok(Plan::Compute(BinOp::Add)),
+        _ => Ok(Plan::Words(BinaryOp::Add)),
     }
 }
 
 /// `-`
-pub(crate) fn difference(structs: &[Struct], first: &ExprType) -> Result<Plan, Stop>
-    ensures { MatchResult result (λ p. p ≡ spec.difference (spec.struct_sizes structs.now) first.now) (λ e. e ≡ Stop.Memory) }
+pub(crate) fn difference(structs: &Structs, first: &ExprType) -> Result<Plan, Stop>
+    ensures { MatchResult result (λ p. operation_of p ≡ spec.difference (sizes_in structs.now) first.now) (λ e. e ≡ Stop.Memory) }
 {
     match first {
-        ExprType::Pointer(object) => Ok(Plan::MoveBack {
+        ExprType::Pointer(object) => Ok(Plan::MoveDown {
             words: words_of(structs, object)?,
         }),
-        _ => Ok(Plan::Compute(BinOp::Sub)),
+        _ => Ok(Plan::Words(BinaryOp::Sub)),
     }
 }
 
 /// `==` and `!=`
-fn equality(ne: bool, op: BinOp, first: &ExprType) -> Plan
-    ensures { result ≡ spec.equality ne op first.now }
+fn equality(op: BinaryOp, pointers: Plan, first: &ExprType) -> Plan
+    ensures { operation_of result ≡ spec.equality op (operation_of pointers) first.now }
 {
-    if is_int(first) {
-        Plan::Compute(op)
-    } else {
-        Plan::Compare { ne }
+    match first {
+        ExprType::Int => Plan::Words(op),
+        _ => pointers,
     }
 }
 
-fn operator(op: BinaryOp) -> BinOp
-    ensures { result ≡ spec.operator op }
-{
-    match op {
-        BinaryOp::Or | BinaryOp::BitOr => BinOp::Or,
-        BinaryOp::And | BinaryOp::BitAnd => BinOp::And,
-        BinaryOp::BitXor => BinOp::Xor,
-        BinaryOp::Equal => BinOp::Eq,
-        BinaryOp::NotEqual => BinOp::Ne,
-        BinaryOp::Less => BinOp::Lt,
-        BinaryOp::Greater => BinOp::Gt,
-        BinaryOp::LessEqual => BinOp::Le,
-        BinaryOp::GreaterEqual => BinOp::Ge,
-        BinaryOp::ShiftLeft => BinOp::Shl,
-        BinaryOp::ShiftRight => BinOp::Shr,
-        BinaryOp::Add => BinOp::Add,
-        BinaryOp::Sub => BinOp::Sub,
-        BinaryOp::Mul => BinOp::Mul,
-        BinaryOp::Div => BinOp::Quo,
-        BinaryOp::Rem => BinOp::Rem,
-    }
-}
-
-/// How an operator on two values of these types is carried out.
+/// What an operator does with two values of these types.
 pub(crate) fn plan_of(
-    structs: &[Struct],
+    structs: &Structs,
     op: BinaryOp,
     first: &ExprType,
     second: &ExprType,
 ) -> Result<Plan, Stop>
-    ensures { MatchResult result (λ p. p ≡ spec.plan (spec.struct_sizes structs.now) op first.now second.now) (λ e. e ≡ Stop.Memory) }
+    ensures { MatchResult result (λ p. operation_of p ≡ spec.operation (sizes_in structs.now) op first.now second.now) (λ e. e ≡ Stop.Memory) }
 {
     match op {
         BinaryOp::Add => sum(structs, first, second),
         BinaryOp::Sub => difference(structs, first),
-        BinaryOp::Equal => Ok(equality(false, BinOp::Eq, first)),
-        BinaryOp::NotEqual => Ok(equality(true, BinOp::Ne, first)),
-        _ => Ok(Plan::Compute(operator(op))),
+        BinaryOp::Equal => Ok(equality(op, Plan::SamePointers, first)),
+        BinaryOp::NotEqual => Ok(equality(op, Plan::OtherPointers, first)),
+        _ => Ok(Plan::Words(op)),
     }
 }

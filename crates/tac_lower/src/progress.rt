@@ -12,5 +12,4 @@ pub struct Progress {
     ghost few: { room ≤ 16384 },
     ghost defs: { next.def + room ≤ 2147500032 },
     ghost reads: { next.read + room ≤ 2147500032 },
-    ghost sites: { next.site + room ≤ 2147500032 },
 }

@@ -6,11 +6,11 @@ ghost use Rattle.tac_lower.specs.Parts.{in_turn};
 ghost use Rattle.tac_lower.specs.Stmts as spec;
 
 use crate::draft::Ends;
+use crate::structs::Structs;
 use crate::writer::{Stop, Writer};
 use c_ast::AssignOp;
-use c_typed::{Stmt, Struct};
+use c_typed::Stmt;
 use sqlite_items::{Boxed, Items};
-use std::alloc::Global;
 
 /// Where no loop stands round, and in a dry run, whose jumps are not kept.
 pub const NO_LOOP: Ends = Ends { leave: 0, again: 0 };
@@ -20,8 +20,7 @@ impl Writer {
     #[cycle(stmts)]
     pub(crate) fn stmt(
         &mut self,
-        alloc: Global,
-        structs: &[Struct],
+        structs: &Structs,
         in_main: bool,
         ends: Ends,
         s: &Stmt,
@@ -29,23 +28,23 @@ impl Writer {
         ensures { Emits (spec.stmt (spec.around_by structs.now in_main) s.now) ends self.old self.new result }
     {
         match s {
-            Stmt::Block(items) => self.stmts(alloc, structs, in_main, ends, items.as_slice()),
+            Stmt::Block(items) => self.stmts(structs, in_main, ends, items.as_slice()),
             Stmt::Assign {
                 line,
                 target,
                 op,
                 value,
-            } => self.assignment(alloc, structs, line.0, *op, target, value),
+            } => self.assignment(structs, line.0, *op, target, value),
             Stmt::Increment { line, target } => {
-                self.step(alloc, structs, line.0, AssignOp::Add, target)
+                self.step(structs, line.0, AssignOp::Add, target)
             }
             Stmt::Decrement { line, target } => {
-                self.step(alloc, structs, line.0, AssignOp::Sub, target)
+                self.step(structs, line.0, AssignOp::Sub, target)
             }
-            Stmt::Call { line, call } => self.argument(alloc, structs, line.0, call),
-            Stmt::PutInt { line, value } => self.put_int(alloc, structs, line.0, value),
-            Stmt::Free { line, pointer } => self.free(alloc, structs, line.0, pointer),
-            Stmt::Return { line, value } => self.give(alloc, structs, in_main, line.0, value),
+            Stmt::Call { line, call } => self.argument(structs, line.0, call),
+            Stmt::PutInt { line, value } => self.put_int(structs, line.0, value),
+            Stmt::Free { line, pointer } => self.free(structs, line.0, pointer),
+            Stmt::Return { line, value } => self.give(structs, in_main, line.0, value),
             Stmt::Break { line } => self.jump(line.0, ends.leave),
             Stmt::Continue { line } => self.jump(line.0, ends.again),
             Stmt::If {
@@ -54,17 +53,17 @@ impl Writer {
                 first,
                 second,
             } => match second {
-                None => self.when(alloc, structs, in_main, ends, condition, first, 0),
+                None => self.when(structs, in_main, ends, condition, first, 0),
                 Some(second) => {
-                    self.when(alloc, structs, in_main, ends, condition, first, 1)?;
-                    self.otherwise(alloc, structs, in_main, ends, line.0, second)
+                    self.when(structs, in_main, ends, condition, first, 1)?;
+                    self.otherwise(structs, in_main, ends, line.0, second)
                 }
             },
             Stmt::While {
                 line,
                 condition,
                 body,
-            } => self.while_loop(alloc, structs, in_main, line.0, condition, body),
+            } => self.while_loop(structs, in_main, line.0, condition, body),
             Stmt::For {
                 line,
                 start,
@@ -72,23 +71,23 @@ impl Writer {
                 step,
                 body,
             } => {
-                self.stmt(alloc, structs, in_main, ends, start.get())?;
+                self.stmt(structs, in_main, ends, start.get())?;
                 let head = self.next.at;
                 self.turn(line.0)?;
-                let past = self.points(alloc, structs, in_main, body)?;
-                let more = self.points(alloc, structs, in_main, step)?;
-                self.guard(alloc, structs, condition, past + more + 1)?;
+                let past = self.points(structs, in_main, body)?;
+                let more = self.points(structs, in_main, step)?;
+                self.guard(structs, condition, past + more + 1)?;
                 let again = self.next.at + past;
                 let round = Ends {
                     leave: again + more + 1,
                     again,
                 };
-                self.stmt(alloc, structs, in_main, round, body.get())?;
-                self.stmt(alloc, structs, in_main, ends, step.get())?;
+                self.stmt(structs, in_main, round, body.get())?;
+                self.stmt(structs, in_main, ends, step.get())?;
                 self.jump(line.0, head)
             }
             Stmt::Par { line, branches } => {
-                self.par(alloc, structs, in_main, ends, line.0, branches.as_slice())
+                self.par(structs, in_main, ends, line.0, branches.as_slice())
             }
         }
     }
@@ -97,8 +96,7 @@ impl Writer {
     #[cycle(stmts)]
     pub(crate) fn stmts(
         &mut self,
-        alloc: Global,
-        structs: &[Struct],
+        structs: &Structs,
         in_main: bool,
         ends: Ends,
         items: &[Stmt],
@@ -106,7 +104,7 @@ impl Writer {
         ensures { Emits (in_turn (map (spec.stmt (spec.around_by structs.now in_main)) items.now)) ends self.old self.new result }
     {
         for s in items {
-            self.stmt(alloc, structs, in_main, ends, s)?;
+            self.stmt(structs, in_main, ends, s)?;
         }
         Ok(0)
     }
@@ -115,8 +113,7 @@ impl Writer {
     #[cycle(stmts)]
     pub(crate) fn points(
         &self,
-        alloc: Global,
-        structs: &[Struct],
+        structs: &Structs,
         in_main: bool,
         s: &Boxed<Stmt>,
     ) -> Result<u32, Stop>
@@ -125,8 +122,8 @@ impl Writer {
         if self.dry {
             return Ok(0);
         }
-        let mut run = self.dry_run(alloc);
-        run.stmt(alloc, structs, in_main, NO_LOOP, s.get())?;
+        let mut run = self.dry_run(structs.alloc());
+        run.stmt(structs, in_main, NO_LOOP, s.get())?;
         Ok(run.next.at - self.next.at)
     }
 }

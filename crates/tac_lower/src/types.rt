@@ -6,9 +6,9 @@ ghost use Rattle.tac_lower.specs.tools.Interning.{IsKept, Entered, Enters, Inter
 ghost use Rattle.tac_lower.specs.Shapes.{base_entry, object_entry, part_entries};
 
 use crate::shapes::{Key, Shapes};
-use c_typed::{BaseType, ObjectType, Struct};
+use crate::structs::Structs;
+use c_typed::{BaseType, ObjectType};
 use dfi_base::Memory;
-use std::alloc::Global;
 
 /// Numbers the shapes of types. A struct is looked at once: then its number is known.
 #[derive(Drop)]
@@ -18,12 +18,12 @@ pub struct Interner {
 }
 
 impl Interner {
-    pub(crate) fn new(alloc: Global, structs: &[Struct]) -> Result<Interner, Memory>
+    pub(crate) fn new(structs: &Structs) -> Result<Interner, Memory>
         ensures shapes { IfOk result (λ new. new.shapes ≡ Shape.Int ∷ Shape.Ptr ∷ []) }
         ensures kept { IfOk result (λ new. IsKept structs.now new.known.items new.shapes) }
     {
-        let shapes = Shapes::new(alloc)?;
-        let known = vec![in alloc; None; structs.len()]?;
+        let shapes = Shapes::new(structs.alloc())?;
+        let known = vec![in structs.alloc(); None; structs.len()]?;
         Ok(Interner { shapes, known })
     }
 
@@ -31,8 +31,7 @@ impl Interner {
     #[cycle(types)]
     fn struct_number(
         &mut self,
-        alloc: Global,
-        structs: &[Struct],
+        structs: &Structs,
         limit: usize,
         number: usize,
     ) -> Result<u32, Memory>
@@ -46,8 +45,9 @@ impl Interner {
         if let Some(known) = self.known[number] {
             return Ok(known);
         }
-        let fields = structs[number].fields.as_slice();
-        let parts = self.parts(alloc, structs, number, fields)?;
+        let items = structs.items();
+        let fields = items[number].fields.as_slice();
+        let parts = self.parts(structs, number, fields)?;
         let shape = self.shapes.number(Key::Struct { parts })?;
         self.known[number] = Some(shape);
         Ok(shape)
@@ -56,8 +56,7 @@ impl Interner {
     #[cycle(types)]
     fn parts(
         &mut self,
-        alloc: Global,
-        structs: &[Struct],
+        structs: &Structs,
         limit: usize,
         fields: &[ObjectType],
     ) -> Result<Vec<u32>, Memory>
@@ -67,9 +66,9 @@ impl Interner {
             (λ shapes. (part_entries (first_structs structs.now limit) [] fields.now shapes).shapes)
             (λ shapes. (part_entries (first_structs structs.now limit) [] fields.now shapes).numbers) self.old self.new parts.items) }
     {
-        let mut parts = Vec::new(alloc);
+        let mut parts = Vec::new(structs.alloc());
         for field in fields {
-            let part = self.object(alloc, structs, limit, field)?;
+            let part = self.object(structs, limit, field)?;
             parts.push(part)?;
         }
         Ok(parts)
@@ -78,8 +77,7 @@ impl Interner {
     #[cycle(types)]
     fn base(
         &mut self,
-        alloc: Global,
-        structs: &[Struct],
+        structs: &Structs,
         limit: usize,
         base: BaseType,
         stars: u64,
@@ -93,17 +91,14 @@ impl Interner {
         }
         match base {
             BaseType::Int | BaseType::Unknown => Ok(0),
-            BaseType::Struct(number) => {
-                self.struct_number(alloc, structs, limit, number as usize)
-            }
+            BaseType::Struct(number) => { self.struct_number(structs, limit, number as usize) }
         }
     }
 
     #[cycle(types)]
     fn object(
         &mut self,
-        alloc: Global,
-        structs: &[Struct],
+        structs: &Structs,
         limit: usize,
         object: &ObjectType,
     ) -> Result<u32, Memory>
@@ -111,20 +106,15 @@ impl Interner {
         requires kept { IsKept structs.now self.old.known.items self.old.shapes }
         ensures { IfOk result (λ n. Enters structs.now (object_entry (first_structs structs.now limit) object.now) self.old self.new n) }
     {
-        let item = self.base(alloc, structs, limit, object.base, object.stars)?;
+        let item = self.base(structs, limit, object.base, object.stars)?;
         self.shapes.arrays(object.lengths.as_slice(), item)
     }
 
     /// The number of the shape of a type.
-    pub(crate) fn number(
-        &mut self,
-        alloc: Global,
-        structs: &[Struct],
-        object: &ObjectType,
-    ) -> Result<u32, Memory>
+    pub(crate) fn number(&mut self, structs: &Structs, object: &ObjectType) -> Result<u32, Memory>
         requires { IsKept structs.now self.old.known.items self.old.shapes }
         ensures { IfOk result (λ n. Interned structs.now (object.now ∷ []) (λ shape. shape object.now) self.old self.new n) }
     {
-        self.object(alloc, structs, structs.len(), object)
+        self.object(structs, structs.len(), object)
     }
 }

@@ -4,51 +4,45 @@ ghost use Rattle.std.specs.Prelude.{[]};
 ghost use Rattle.tac_lower.specs.declared.draft.Ends.{Ends};
 ghost use Rattle.tac_lower.specs.tools.Emits.{Emits, Yields, Counts};
 ghost use Rattle.tac_lower.specs.Parts.{gathered};
-ghost use Rattle.tac_lower.specs.Values.{expr, value, values_of, truth, struct_sizes};
+ghost use Rattle.tac_lower.specs.Values.{expr, value, values_of, truth, sizes_in};
 
 use crate::places::{left, temp};
 use crate::plan::{Logic, logic_of, plan_of, words_behind};
+use crate::structs::Structs;
 use crate::writer::{Spot, Stop, Writer};
-use c_typed::{Expr, Form, Struct};
+use c_typed::{Expr, Form};
 use sqlite_items::{Boxed, Items};
-use std::alloc::Global;
 use tac_ir::{Instr, Place};
 
 impl Writer {
     /// An expression: a place, or the temporary with the value.
     #[cycle(values)]
-    pub(crate) fn expr(
-        &mut self,
-        alloc: Global,
-        structs: &[Struct],
-        line: u32,
-        e: &Expr,
-    ) -> Result<Spot, Stop>
-        ensures { (ends : Ends) → Yields ((expr (struct_sizes structs.now) e.now).yield line) ends self.old self.new result }
+    pub(crate) fn expr(&mut self, structs: &Structs, line: u32, e: &Expr) -> Result<Spot, Stop>
+        ensures { (ends : Ends) → Yields ((expr (sizes_in structs.now) e.now).yield line) ends self.old self.new result }
     {
         match &e.form {
             Form::Global(var) => Ok(Spot::Direct(Place::Global {
                 var: *var,
-                path: Items::new(alloc),
+                path: Items::new(structs.alloc()),
             })),
             Form::Local(var) => Ok(Spot::Direct(Place::Local {
                 var: *var,
-                path: Items::new(alloc),
+                path: Items::new(structs.alloc()),
             })),
-            Form::Deref(pointer) => left(self.value(alloc, structs, line, pointer)),
+            Form::Deref(pointer) => left(self.value(structs, line, pointer)),
             Form::Index { pointer, index } => {
-                let a = self.value(alloc, structs, line, pointer)?;
-                let b = self.value(alloc, structs, line, index)?;
+                let a = self.value(structs, line, pointer)?;
+                let b = self.value(structs, line, index)?;
                 let words = words_behind(structs, &pointer.get().typing)?;
                 left(self.index(line, words, a, b))
             }
             Form::Field { whole, field } => {
-                let spot = self.expr(alloc, structs, line, whole.get())?;
-                self.part(alloc, line, &whole.get().typing, *field, spot)
+                let spot = self.expr(structs, line, whole.get())?;
+                self.part(structs.alloc(), line, &whole.get().typing, *field, spot)
             }
             Form::Arrow { pointer, field } => {
-                let a = self.value(alloc, structs, line, pointer)?;
-                left(self.field(alloc, line, &pointer.get().typing, *field, a))
+                let a = self.value(structs, line, pointer)?;
+                left(self.field(structs.alloc(), line, &pointer.get().typing, *field, a))
             }
             Form::Number(k) => left(self.constant(line, *k)),
             Form::Null => {
@@ -56,20 +50,20 @@ impl Writer {
                 left(self.fresh(line, Instr::Null { to }))
             }
             Form::Read(place) => {
-                let spot = self.expr(alloc, structs, line, place.get())?;
+                let spot = self.expr(structs, line, place.get())?;
                 left(self.read(line, spot))
             }
             Form::Decay(place) => {
-                let spot = self.expr(alloc, structs, line, place.get())?;
+                let spot = self.expr(structs, line, place.get())?;
                 let a = self.pointer_to(line, spot)?;
-                left(self.decay(alloc, line, &place.get().typing, a))
+                left(self.decay(structs.alloc(), line, &place.get().typing, a))
             }
             Form::Address(place) => {
-                let spot = self.expr(alloc, structs, line, place.get())?;
+                let spot = self.expr(structs, line, place.get())?;
                 left(self.pointer_to(line, spot))
             }
             Form::Prefix { op, operand } => {
-                let a = self.value(alloc, structs, line, operand)?;
+                let a = self.value(structs, line, operand)?;
                 left(self.prefix(line, *op, &operand.get().typing, a))
             }
             Form::Binary {
@@ -78,22 +72,22 @@ impl Writer {
                 right: second,
             } => match logic_of(*op) {
                 Logic::Both => {
-                    let x = self.truth(alloc, structs, line, first)?;
-                    let past = self.truth_points(alloc, structs, line, second)?;
+                    let x = self.truth(structs, line, first)?;
+                    let past = self.truth_points(structs, line, second)?;
                     self.test(line, x, past + 3)?;
-                    let y = self.truth(alloc, structs, line, second)?;
+                    let y = self.truth(structs, line, second)?;
                     left(self.settle(line, y))
                 }
                 Logic::Either => {
-                    let x = self.truth(alloc, structs, line, first)?;
-                    let past = self.truth_points(alloc, structs, line, second)?;
+                    let x = self.truth(structs, line, first)?;
+                    let past = self.truth_points(structs, line, second)?;
                     self.test_past(line, x, past + 1)?;
-                    let y = self.truth(alloc, structs, line, second)?;
+                    let y = self.truth(structs, line, second)?;
                     left(self.settle(line, y))
                 }
                 Logic::Neither => {
-                    let a = self.value(alloc, structs, line, first)?;
-                    let b = self.value(alloc, structs, line, second)?;
+                    let a = self.value(structs, line, first)?;
+                    let b = self.value(structs, line, second)?;
                     let plan = plan_of(structs, *op, &first.get().typing, &second.get().typing)?;
                     left(self.carry(line, plan, a, b))
                 }
@@ -102,7 +96,7 @@ impl Writer {
                 function,
                 arguments,
             } => {
-                let temps = self.arguments(alloc, structs, line, arguments.as_slice())?;
+                let temps = self.arguments(structs, line, arguments.as_slice())?;
                 left(self.call(line, *function, temps))
             }
             Form::GetInt => {
@@ -113,14 +107,14 @@ impl Writer {
                 let to = self.next.temp;
                 left(self.fresh(line, Instr::Left { to }))
             }
-            Form::New { item, count, .. } => match count {
+            Form::New { site, item, count } => match count {
                 None => {
                     let a = self.constant(line, 1)?;
-                    left(self.block(alloc, line, item, a))
+                    left(self.block(structs.alloc(), line, *site, item, a))
                 }
                 Some(count) => {
-                    let a = self.value(alloc, structs, line, count)?;
-                    left(self.block(alloc, line, item, a))
+                    let a = self.value(structs, line, count)?;
+                    left(self.block(structs.alloc(), line, *site, item, a))
                 }
             },
         }
@@ -130,60 +124,41 @@ impl Writer {
     #[cycle(values)]
     pub(crate) fn value(
         &mut self,
-        alloc: Global,
-        structs: &[Struct],
+        structs: &Structs,
         line: u32,
         e: &Boxed<Expr>,
     ) -> Result<u32, Stop>
-        ensures { (ends : Ends) → Emits (value line (expr (struct_sizes structs.now) e.now)) ends self.old self.new result }
+        ensures { (ends : Ends) → Emits (value line (expr (sizes_in structs.now) e.now)) ends self.old self.new result }
     {
-        self.argument(alloc, structs, line, e.get())
+        self.argument(structs, line, e.get())
     }
 
     /// The same for an argument of a call.
     #[cycle(values)]
-    pub(crate) fn argument(
-        &mut self,
-        alloc: Global,
-        structs: &[Struct],
-        line: u32,
-        e: &Expr,
-    ) -> Result<u32, Stop>
-        ensures { (ends : Ends) → Emits (value line (expr (struct_sizes structs.now) e.now)) ends self.old self.new result }
+    pub(crate) fn argument(&mut self, structs: &Structs, line: u32, e: &Expr) -> Result<u32, Stop>
+        ensures { (ends : Ends) → Emits (value line (expr (sizes_in structs.now) e.now)) ends self.old self.new result }
     {
-        temp(self.expr(alloc, structs, line, e))
+        temp(self.expr(structs, line, e))
     }
 
     #[cycle(values)]
-    fn truth(
-        &mut self,
-        alloc: Global,
-        structs: &[Struct],
-        line: u32,
-        e: &Boxed<Expr>,
-    ) -> Result<u32, Stop>
-        ensures { (ends : Ends) → Emits (truth line (expr (struct_sizes structs.now) e.now)) ends self.old self.new result }
+    fn truth(&mut self, structs: &Structs, line: u32, e: &Boxed<Expr>) -> Result<u32, Stop>
+        ensures { (ends : Ends) → Emits (truth line (expr (sizes_in structs.now) e.now)) ends self.old self.new result }
     {
-        let a = self.value(alloc, structs, line, e)?;
+        let a = self.value(structs, line, e)?;
         self.truth_of(line, &e.get().typing, a)
     }
 
     /// How many instructions a truth value will have: a dry run counts them.
     #[cycle(values)]
-    fn truth_points(
-        &self,
-        alloc: Global,
-        structs: &[Struct],
-        line: u32,
-        e: &Boxed<Expr>,
-    ) -> Result<u32, Stop>
-        ensures { Counts (truth line (expr (struct_sizes structs.now) e.now)) self.now result }
+    fn truth_points(&self, structs: &Structs, line: u32, e: &Boxed<Expr>) -> Result<u32, Stop>
+        ensures { Counts (truth line (expr (sizes_in structs.now) e.now)) self.now result }
     {
         if self.dry {
             return Ok(0);
         }
-        let mut run = self.dry_run(alloc);
-        run.truth(alloc, structs, line, e)?;
+        let mut run = self.dry_run(structs.alloc());
+        run.truth(structs, line, e)?;
         Ok(run.next.at - self.next.at)
     }
 
@@ -191,16 +166,15 @@ impl Writer {
     #[cycle(values)]
     fn arguments(
         &mut self,
-        alloc: Global,
-        structs: &[Struct],
+        structs: &Structs,
         line: u32,
         arguments: &[Expr],
     ) -> Result<Items<u32>, Stop>
-        ensures { (ends : Ends) → Emits (gathered [] (values_of line (struct_sizes structs.now) arguments.now)) ends self.old self.new result }
+        ensures { (ends : Ends) → Emits (gathered [] (values_of line (sizes_in structs.now) arguments.now)) ends self.old self.new result }
     {
-        let mut temps = Items::new(alloc);
+        let mut temps = Items::new(structs.alloc());
         for argument in arguments {
-            let temp = self.argument(alloc, structs, line, argument)?;
+            let temp = self.argument(structs, line, argument)?;
             temps.push(temp)?;
         }
         Ok(temps)

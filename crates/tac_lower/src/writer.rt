@@ -56,7 +56,6 @@ pub struct Writer {
     ghost temps: { next.temp ≤ 2147483648 + next.at },
     ghost defs: { next.def + room ≤ 2147500032 + next.at },
     ghost reads: { next.read + room ≤ 2147500032 + next.at },
-    ghost sites: { next.site + room ≤ 2147500032 + next.at },
 }
 
 /// Takes only an index.
@@ -64,49 +63,36 @@ pub const NO_NUMBER: Taken = Taken {
     temp: false,
     def: false,
     read: false,
-    site: false,
 };
 
 pub const A_TEMP: Taken = Taken {
     temp: true,
     def: false,
     read: false,
-    site: false,
 };
 
 pub const A_DEF: Taken = Taken {
     temp: false,
     def: true,
     read: false,
-    site: false,
 };
 
 pub const A_TEMP_AND_DEF: Taken = Taken {
     temp: true,
     def: true,
     read: false,
-    site: false,
 };
 
 pub const A_READ: Taken = Taken {
     temp: false,
     def: false,
     read: true,
-    site: false,
 };
 
 pub const A_TEMP_AND_READ: Taken = Taken {
     temp: true,
     def: false,
     read: true,
-    site: false,
-};
-
-pub const A_TEMP_AND_SITE: Taken = Taken {
-    temp: true,
-    def: false,
-    read: false,
-    site: true,
 };
 
 impl Writer {

@@ -7,16 +7,19 @@ ghost use Rattle.tac_lower.specs.tools.Emits.{Emits, at_spot, write_at, changed}
 ghost use Rattle.tac_lower.specs.Instrs as spec;
 ghost use Rattle.tac_lower.specs.Parts.{chained};
 ghost use Rattle.tac_lower.specs.Stmts as stmts;
-ghost use Rattle.tac_lower.specs.Values.{expr, value, truth, carried, struct_sizes};
+ghost use Rattle.tac_lower.specs.Values.{expr, value, truth, carried, sizes_in};
+ghost use Rattle.tac_lower.specs.tools.Plans.{operation_of};
+ghost use Rattle.c_typed.specs.Elaboration as elaboration;
 
 use crate::draft::Draft;
-use crate::plan::{Plan, difference, sum};
+use crate::plan::{Plan, plan_of};
+use crate::structs::Structs;
 use crate::writer::{A_DEF, A_READ, Spot, Stop, Writer};
-use c_ast::AssignOp;
-use c_typed::{BaseType, Condition, Expr, ExprType, ObjectType, Struct};
+use c_ast::{AssignOp, BinaryOp};
+use c_typed::{BaseType, Condition, Expr, ExprType, ObjectType};
 use sqlite_items::Items;
 use std::alloc::{AllocError, Global};
-use tac_ir::{BinOp, Instr, Place};
+use tac_ir::{Instr, Place};
 
 /// The type of what stands at a place: `int`, or a pointer.
 fn scalar_at(alloc: Global, typing: &ExprType) -> ExprType
@@ -30,7 +33,7 @@ fn scalar_at(alloc: Global, typing: &ExprType) -> ExprType
 }
 
 fn scalar(alloc: Global, object: &ObjectType) -> ExprType
-    ensures { result ≡ stmts.scalar_of object.now }
+    ensures { result ≡ elaboration.scalar_of object.now }
 {
     if object.stars > 0 && object.lengths.is_empty() {
         ExprType::Pointer(ObjectType {
@@ -49,32 +52,29 @@ fn is_plain(op: AssignOp) -> bool
     matches!(op, AssignOp::Plain)
 }
 
-fn operator(op: AssignOp) -> BinOp
-    ensures { result ≡ stmts.operator op }
+/// The operator of an assignment. (A plain one has none.)
+fn operator(op: AssignOp) -> BinaryOp
+    ensures { result ≡ elaboration.compound_operator op }
 {
     match op {
-        AssignOp::Plain | AssignOp::Add => BinOp::Add,
-        AssignOp::Sub => BinOp::Sub,
-        AssignOp::Mul => BinOp::Mul,
-        AssignOp::Div => BinOp::Quo,
-        AssignOp::Rem => BinOp::Rem,
-        AssignOp::BitAnd => BinOp::And,
-        AssignOp::BitOr => BinOp::Or,
-        AssignOp::BitXor => BinOp::Xor,
-        AssignOp::ShiftLeft => BinOp::Shl,
-        AssignOp::ShiftRight => BinOp::Shr,
+        AssignOp::Plain | AssignOp::Add => BinaryOp::Add,
+        AssignOp::Sub => BinaryOp::Sub,
+        AssignOp::Mul => BinaryOp::Mul,
+        AssignOp::Div => BinaryOp::Div,
+        AssignOp::Rem => BinaryOp::Rem,
+        AssignOp::BitAnd => BinaryOp::BitAnd,
+        AssignOp::BitOr => BinaryOp::BitOr,
+        AssignOp::BitXor => BinaryOp::BitXor,
+        AssignOp::ShiftLeft => BinaryOp::ShiftLeft,
+        AssignOp::ShiftRight => BinaryOp::ShiftRight,
     }
 }
 
 /// How a compound assignment changes a scalar of this type.
-fn update(structs: &[Struct], op: AssignOp, scalar: &ExprType) -> Result<Plan, Stop>
-    ensures { MatchResult result (λ p. p ≡ stmts.update (struct_sizes structs.now) op scalar.now) (λ e. e ≡ Stop.Memory) }
+fn update(structs: &Structs, op: AssignOp, scalar: &ExprType) -> Result<Plan, Stop>
+    ensures { MatchResult result (λ p. operation_of p ≡ elaboration.update (sizes_in structs.now) op scalar.now) (λ e. e ≡ Stop.Memory) }
 {
-    match op {
-        AssignOp::Add => sum(structs, scalar, &ExprType::Int),
-        AssignOp::Sub => difference(structs, scalar),
-        _ => Ok(Plan::Compute(operator(op))),
-    }
+    plan_of(structs, operator(op), scalar, &ExprType::Int)
 }
 
 fn copy_place(alloc: Global, place: &Place) -> Result<Place, AllocError>
@@ -180,24 +180,22 @@ impl Writer {
     /// `=`, or the value of a declared variable.
     fn assign(
         &mut self,
-        alloc: Global,
-        structs: &[Struct],
+        structs: &Structs,
         line: u32,
         target: &Expr,
         source: &Expr,
     ) -> Result<u32, Stop>
-        ensures { (ends : Ends) → Emits (stmts.assigned line ((expr (struct_sizes structs.now) target.now).yield line) (value line (expr (struct_sizes structs.now) source.now))) ends self.old self.new result }
+        ensures { (ends : Ends) → Emits (stmts.assigned line ((expr (sizes_in structs.now) target.now).yield line) (value line (expr (sizes_in structs.now) source.now))) ends self.old self.new result }
     {
-        let spot = self.expr(alloc, structs, line, target)?;
-        let value = self.argument(alloc, structs, line, source)?;
+        let spot = self.expr(structs, line, target)?;
+        let value = self.argument(structs, line, source)?;
         self.write(line, spot, value)
     }
 
     /// Writes a place anew, from its old value and another.
     fn change(
         &mut self,
-        alloc: Global,
-        structs: &[Struct],
+        structs: &Structs,
         line: u32,
         op: AssignOp,
         typing: &ExprType,
@@ -205,9 +203,9 @@ impl Writer {
         old: u32,
         b: u32,
     ) -> Result<u32, Stop>
-        ensures { (ends : Ends) → Emits (changed line (stmts.update (struct_sizes structs.now) op (stmts.scalar_at typing.now)) spot old b) ends self.old self.new result }
+        ensures { (ends : Ends) → Emits (changed line (elaboration.update (sizes_in structs.now) op (stmts.scalar_at typing.now)) spot old b) ends self.old self.new result }
     {
-        let scalar = scalar_at(alloc, typing);
+        let scalar = scalar_at(structs.alloc(), typing);
         let plan = update(structs, op, &scalar)?;
         let c = self.carry(line, plan, old, b)?;
         self.write(line, spot, c)
@@ -216,89 +214,73 @@ impl Writer {
     /// A compound assignment.
     fn compound(
         &mut self,
-        alloc: Global,
-        structs: &[Struct],
+        structs: &Structs,
         line: u32,
         op: AssignOp,
         target: &Expr,
         source: &Expr,
     ) -> Result<u32, Stop>
-        ensures { (ends : Ends) → Emits (stmts.compound line (struct_sizes structs.now) op (expr (struct_sizes structs.now) target.now) (value line (expr (struct_sizes structs.now) source.now))) ends self.old self.new result }
+        ensures { (ends : Ends) → Emits (stmts.compound line (sizes_in structs.now) op (expr (sizes_in structs.now) target.now) (value line (expr (sizes_in structs.now) source.now))) ends self.old self.new result }
     {
-        let place = self.expr(alloc, structs, line, target)?;
-        let old = self.old_value(alloc, line, &place)?;
-        let b = self.argument(alloc, structs, line, source)?;
-        self.change(alloc, structs, line, op, &target.typing, place, old, b)
+        let place = self.expr(structs, line, target)?;
+        let old = self.old_value(structs.alloc(), line, &place)?;
+        let b = self.argument(structs, line, source)?;
+        self.change(structs, line, op, &target.typing, place, old, b)
     }
 
     /// `++` and `--`, as a sum and a difference.
     pub(crate) fn step(
         &mut self,
-        alloc: Global,
-        structs: &[Struct],
+        structs: &Structs,
         line: u32,
         op: AssignOp,
         target: &Expr,
     ) -> Result<u32, Stop>
-        ensures { (ends : Ends) → Emits (stmts.compound line (struct_sizes structs.now) op (expr (struct_sizes structs.now) target.now) (spec.constant line (pos 1))) ends self.old self.new result }
+        ensures { (ends : Ends) → Emits (stmts.compound line (sizes_in structs.now) op (expr (sizes_in structs.now) target.now) (spec.constant line (pos 1))) ends self.old self.new result }
     {
-        let place = self.expr(alloc, structs, line, target)?;
-        let old = self.old_value(alloc, line, &place)?;
+        let place = self.expr(structs, line, target)?;
+        let old = self.old_value(structs.alloc(), line, &place)?;
         let b = self.constant(line, 1)?;
-        self.change(alloc, structs, line, op, &target.typing, place, old, b)
+        self.change(structs, line, op, &target.typing, place, old, b)
     }
 
     /// An assignment.
     pub(crate) fn assignment(
         &mut self,
-        alloc: Global,
-        structs: &[Struct],
+        structs: &Structs,
         line: u32,
         op: AssignOp,
         target: &Expr,
         source: &Expr,
     ) -> Result<u32, Stop>
-        ensures { (ends : Ends) → Emits (stmts.assignment line (struct_sizes structs.now) op (expr (struct_sizes structs.now) target.now) (value line (expr (struct_sizes structs.now) source.now))) ends self.old self.new result }
+        ensures { (ends : Ends) → Emits (stmts.assignment line (sizes_in structs.now) op (expr (sizes_in structs.now) target.now) (value line (expr (sizes_in structs.now) source.now))) ends self.old self.new result }
     {
         if is_plain(op) {
-            self.assign(alloc, structs, line, target, source)
+            self.assign(structs, line, target, source)
         } else {
-            self.compound(alloc, structs, line, op, target, source)
+            self.compound(structs, line, op, target, source)
         }
     }
 
     /// `putint`
-    pub(crate) fn put_int(
-        &mut self,
-        alloc: Global,
-        structs: &[Struct],
-        line: u32,
-        e: &Expr,
-    ) -> Result<u32, Stop>
-        ensures { (ends : Ends) → Emits (stmts.put line (expr (struct_sizes structs.now) e.now)) ends self.old self.new result }
+    pub(crate) fn put_int(&mut self, structs: &Structs, line: u32, e: &Expr) -> Result<u32, Stop>
+        ensures { (ends : Ends) → Emits (stmts.put line (expr (sizes_in structs.now) e.now)) ends self.old self.new result }
     {
-        let a = self.argument(alloc, structs, line, e)?;
+        let a = self.argument(structs, line, e)?;
         self.quiet(line, Instr::Out { a })
     }
 
-    pub(crate) fn free(
-        &mut self,
-        alloc: Global,
-        structs: &[Struct],
-        line: u32,
-        e: &Expr,
-    ) -> Result<u32, Stop>
-        ensures { (ends : Ends) → Emits (stmts.freed line (expr (struct_sizes structs.now) e.now)) ends self.old self.new result }
+    pub(crate) fn free(&mut self, structs: &Structs, line: u32, e: &Expr) -> Result<u32, Stop>
+        ensures { (ends : Ends) → Emits (stmts.freed line (expr (sizes_in structs.now) e.now)) ends self.old self.new result }
     {
-        let a = self.argument(alloc, structs, line, e)?;
+        let a = self.argument(structs, line, e)?;
         self.quiet(line, Instr::Free { a })
     }
 
     /// A `return`, with 0 where there is no value.
     pub(crate) fn give(
         &mut self,
-        alloc: Global,
-        structs: &[Struct],
+        structs: &Structs,
         in_main: bool,
         line: u32,
         given: &Option<Expr>,
@@ -311,38 +293,31 @@ impl Writer {
                 self.give_back(in_main, line, a)
             }
             Some(e) => {
-                let a = self.argument(alloc, structs, line, e)?;
+                let a = self.argument(structs, line, e)?;
                 self.give_back(in_main, line, a)
             }
         }
     }
 
-    fn truth_value(
-        &mut self,
-        alloc: Global,
-        structs: &[Struct],
-        line: u32,
-        e: &Expr,
-    ) -> Result<u32, Stop>
-        ensures { (ends : Ends) → Emits (truth line (expr (struct_sizes structs.now) e.now)) ends self.old self.new result }
+    fn truth_value(&mut self, structs: &Structs, line: u32, e: &Expr) -> Result<u32, Stop>
+        ensures { (ends : Ends) → Emits (truth line (expr (sizes_in structs.now) e.now)) ends self.old self.new result }
     {
-        let a = self.argument(alloc, structs, line, e)?;
+        let a = self.argument(structs, line, e)?;
         self.truth_of(line, &e.typing, a)
     }
 
     /// A condition, and a test that goes past so many instructions where it is 0.
     pub(crate) fn condition(
         &mut self,
-        alloc: Global,
-        structs: &[Struct],
+        structs: &Structs,
         condition: &Condition,
         past: u32,
     ) -> Result<u32, Stop>
         requires { past ≤ 65535 }
-        ensures { (ends : Ends) → Emits (stmts.tested condition.now.line.0 (expr (struct_sizes structs.now) condition.now.value) past) ends self.old self.new result }
+        ensures { (ends : Ends) → Emits (stmts.tested condition.now.line.0 (expr (sizes_in structs.now) condition.now.value) past) ends self.old self.new result }
     {
         let line = condition.line.0;
-        let a = self.truth_value(alloc, structs, line, &condition.value)?;
+        let a = self.truth_value(structs, line, &condition.value)?;
         self.test(line, a, past)
     }
 }

@@ -33,12 +33,8 @@ Drafts t (Err LowerFault.Memory) = Unit {0}
 
 -- before the first function
 pub record IsBegun (globals : ℕ) (p : Progress) : Type 0 where
-  pub next : p.next ≡ record { temp = 0; def = globals + 1; read = 1; site = 0; at = 0 }
+  pub next : p.next ≡ record { temp = 0; def = globals + 1; read = 1; at = 0 }
   pub room : p.room ≡ point_limit
-
-abbrev pub Begins : ℕ → Result Progress Stop → Type 0
-Begins globals (Ok p) = IsBegun globals p
-Begins globals (Err e) = e ≡ Stop.Memory
 
 -- a function was written
 pub record IsWritten (p : Part ℕ) (f : Function) (old new : Progress) (ds : List Draft) : Type 0 where

@@ -6,7 +6,7 @@ use Rattle.tac_lower.specs.declared.draft.Ends.{Ends}
 use Rattle.tac_lower.specs.declared.writer.Writer.{Writer}
 use Rattle.tac_lower.specs.declared.writer.Spot.{Spot}
 use Rattle.tac_lower.specs.declared.writer.Stop.{Stop}
-use Rattle.tac_lower.specs.declared.plan.Plan.{Plan}
+use Rattle.c_typed.specs.Elaboration.{Operation}
 use Rattle.tac_lower.specs.Parts.{Part, Made, ◌▷◌}
 use Rattle.tac_lower.specs.Instrs.{field, set, store}
 use Rattle.tac_lower.specs.Values.{Yield, direct, left, deeper, carried}
@@ -53,7 +53,7 @@ abbrev pub write_at : ℕ → Spot → ℕ → Part ℕ
 write_at line spot b = at_spot (λ p. set line p b) (λ a. store line a b) spot
 
 -- an operator on two temporaries, and the write of what it gives
-abbrev pub changed : ℕ → Plan → Spot → ℕ → ℕ → Part ℕ
+abbrev pub changed : ℕ → Operation → Spot → ℕ → ℕ → Part ℕ
 changed line p spot old b = carried line p old b ▷ λ c. write_at line spot c
 
 -- a value that was left

@@ -2,7 +2,7 @@ use Rattle.std.proofs.Common.{◌∙◌, ap, map, subst}
 use Rattle.c_typed.specs.Typed.{Typed}
 use Rattle.tac_lower.specs.CodeOf.{all_of, code_with, finished, global_of, needs_in, site_of, sites_in, variables_in}
 use Rattle.tac_lower.specs.tools.Interning.{Interned, joined}
-use Rattle.tac_lower.proofs.WholeCode.{whole_code}
+use Rattle.tac_lower.proofs.interned.WholeCode.{whole_code}
 use Rattle.tac_lower.proofs.finish.finish.Goals as goal
 
 pub returns : goal.returns
@@ -19,7 +19,7 @@ returns c =
     let sites = c.in_ok-sites.sites in
     let lines = c.in_ok-lines.lines in
     let drafts = c.args.drafts in
-    let structs = c.as_slice-structs.ensures in
+    let structs = c.new-structs.ensures ∙ c.as_slice-items.ensures in
     let g = subst (λ xs. Interned t.structs (map (λ g. g.object) xs) (λ shape. map (global_of shape) xs) i0 i1 globals) c.as_slice.ensures
     (subst (λ ss. Interned ss (map (λ g. g.object) c.as_slice.result.now) (λ shape. map (global_of shape) c.as_slice.result.now) i0 i1 globals) structs c.in_ok-globals.ensures) in
     let f = subst (λ xs. Interned t.structs (variables_in xs) (λ shape. map (λ f. map (λ v. shape v.object) f.variables) xs) i1 i2 frames) c.as_slice-functions.ensures

@@ -1,6 +1,6 @@
 use Rattle.std.proofs.Common.{drop}
 use Rattle.tac_lower.specs.CodeOf.{sizes_of, first_numbers}
-use Rattle.tac_lower.proofs.Drafting.{Drafting}
+use Rattle.tac_lower.proofs.emitted.Drafting.{Drafting}
 use Rattle.tac_lower.proofs.functions.emit_functions.Given as goal
 
 abbrev pub invariant-loop-k : goal.invariant-loop-k

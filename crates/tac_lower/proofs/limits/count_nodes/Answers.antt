@@ -2,7 +2,7 @@ use Rattle.std.proofs.Common.{◌≡◌, ◌+◌, ◌∙◌, [], ap, arith, leng
 use Rattle.std.proofs.lemmas.List.{length_push}
 use Rattle.tac_ir.specs.Counts.{nodes_by}
 use Rattle.tac_lower.specs.tools.Counting.{AreNodes, capped}
-use Rattle.tac_lower.proofs.CountLaws.{no_nodes, nodes_more}
+use Rattle.tac_lower.proofs.counted.CountLaws.{no_nodes, nodes_more}
 use Rattle.tac_lower.proofs.limits.count_nodes.Goals as goal
 
 pub loop-shape-init : goal.loop-shape-init

@@ -1,5 +1,5 @@
 use Rattle.std.proofs.Common.{◌∙◌, sym}
-use Rattle.tac_lower.proofs.CountLaws.{defs_one, defs_same}
+use Rattle.tac_lower.proofs.counted.CountLaws.{defs_one, defs_same}
 use Rattle.tac_lower.proofs.limits.defs_in.Goals as goal
 use Rattle.tac_lower.proofs.limits.defs_in.Goals.{then-is_def, else-is_def}
 

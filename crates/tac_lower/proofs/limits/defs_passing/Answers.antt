@@ -1,7 +1,7 @@
 use Rattle.std.proofs.Common.{◌++◌, ◌∙◌, ap, arith, map}
 use Rattle.tac_lower.specs.tools.Counting.{capped_share}
 use Rattle.tac_lower.specs.Limits.{passing, definition_limit, def_shares, starting_in, defs_in}
-use Rattle.tac_lower.proofs.CountLaws.{def_shares-capped, passing-capped}
+use Rattle.tac_lower.proofs.counted.CountLaws.{def_shares-capped, passing-capped}
 use Rattle.tac_lower.proofs.limits.defs_passing.Goals as goal
 
 pub returns : goal.returns

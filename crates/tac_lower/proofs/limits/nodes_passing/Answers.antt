@@ -4,7 +4,7 @@ use Rattle.tac_ir.specs.declared.code.Global.{Global}
 use Rattle.tac_ir.specs.declared.code.Site.{Site}
 use Rattle.tac_lower.specs.tools.Counting.{AreNodes, capped}
 use Rattle.tac_lower.specs.Limits.{Share, passing, node_limit, node_shares}
-use Rattle.tac_lower.proofs.CountLaws.{node_shares-capped, passing-capped}
+use Rattle.tac_lower.proofs.counted.CountLaws.{node_shares-capped, passing-capped}
 use Rattle.tac_lower.proofs.limits.nodes_passing.Goals as goal
 
 -- the shares of each kind, by the table of nodes

@@ -6,8 +6,8 @@ use Rattle.tac_ir.specs.GoodForm.{GoodForm}
 use Rattle.tac_lower.specs.CodeOf.{code_of}
 use Rattle.tac_lower.specs.Limits.{first_passed}
 use Rattle.tac_lower.specs.Lowers.{Lowers}
-use Rattle.tac_lower.proofs.FormGood.{good_form}
-use Rattle.tac_lower.proofs.LowerLaws.{emitted_fault, no_memory, points_within}
+use Rattle.tac_lower.proofs.form.Good.{good_form}
+use Rattle.tac_lower.proofs.counted.LowerLaws.{emitted_fault, no_memory, points_within}
 use Rattle.tac_lower.proofs.lowering.lower.Goals as goal
 
 pub passed-requires : goal.passed-requires

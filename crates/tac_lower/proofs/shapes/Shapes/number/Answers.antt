@@ -1,7 +1,7 @@
 use Rattle.std.proofs.Common.{◌∙◌, ap, sym}
 use Rattle.tac_lower.specs.tools.Keys.{shape_of}
 use Rattle.tac_lower.specs.Shapes.{entered}
-use Rattle.tac_lower.proofs.KeyLaws.{entered_is}
+use Rattle.tac_lower.proofs.interned.KeyLaws.{entered_is}
 use Rattle.tac_lower.proofs.shapes.Shapes.number.Goals as goal
 
 pub returns : goal.returns

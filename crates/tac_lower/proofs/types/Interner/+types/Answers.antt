@@ -1,9 +1,9 @@
-use Rattle.std.proofs.Common.{◌≡◌, ◌∙◌, [], Some, ap, arith, length, refl, subst, sym}
+use Rattle.std.proofs.Common.{◌≡◌, ◌∙◌, [], get_or, Some, ap, arith, length, refl, subst, sym}
 use Rattle.std.proofs.lemmas.Option.{slice_get_read}
 use Rattle.std.proofs.lemmas.Result.{IfOk-weaker}
 use Rattle.tac_lower.specs.Shapes.{Entry, array_entry, base_entry, object_entry, part_entries}
 use Rattle.tac_lower.specs.tools.Interning.{Entered, Enters, first_structs}
-use Rattle.tac_lower.proofs.InternedLists.{arrays_entered, struct_hidden, struct_known, struct_entered}
+use Rattle.tac_lower.proofs.interned.InternedLists.{arrays_entered, struct_hidden, struct_known, struct_entered}
 use Rattle.tac_lower.proofs.types.Interner.+types.Goals as goal
 
 pub object-returns : goal.object-returns
@@ -26,11 +26,12 @@ struct_number-returns-in-Some t c =
 
 pub struct_number-returns : goal.struct_number-returns
 struct_number-returns t c =
-    let s = c.index-structs-number.result in
+    let s = c.index-items-number.result in
     let parts = c.in_ok-parts.parts.items in
-    let fields = c.as_slice-fields.ensures ∙ ap (λ s. s.fields) (sym c.index-structs-number.is) in
+    let fields = c.as_slice-fields.ensures ∙ ap (λ s. s.fields) (sym c.index-items-number.is) in
+    let here = c.index-items-number.is ∙ ap (λ ss. get_or ss c.args.number s) c.items-items.ensures in
     let S = first_structs c.args.structs.now c.args.number in
     let first = subst (λ ts. Entered c.args.structs.now (λ shapes. (part_entries S [] ts shapes).shapes) (λ shapes. (part_entries S [] ts shapes).numbers) c.args.self.now c.parts.new.self parts) fields c.in_ok-parts.ensures in
     struct_entered c.args.structs.now c.args.limit c.args.number c.in_ok-shape.shape s c.args.self.now c.parts.new.self
-    (record { shapes = c.number.new.self; known = _ }) parts c.number.new.self c.if-number-limit.false c.requires.limit c.index-structs-number.is
+    (record { shapes = c.number.new.self; known = _ }) parts c.number.new.self c.if-number-limit.false c.requires.limit here
     first c.in_ok-shape.ensures refl refl

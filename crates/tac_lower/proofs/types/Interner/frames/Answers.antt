@@ -2,7 +2,7 @@ use Rattle.std.proofs.Common.{◌+◌, map, sym, subst, take, arith}
 use Rattle.std.proofs.lemmas.List.{take_all}
 use Rattle.tac_lower.specs.CodeOf.{variables_in}
 use Rattle.tac_lower.specs.tools.Interning.{Interned}
-use Rattle.tac_lower.proofs.DraftLaws.{frames_more}
+use Rattle.tac_lower.proofs.interned.DraftLaws.{frames_more}
 use Rattle.tac_lower.proofs.types.Interner.frames.Goals as goal
 
 pub loop-function-preserved : goal.loop-function-preserved

@@ -2,7 +2,7 @@ use Rattle.std.proofs.Common.{◌≡◌, ◌∙◌, ◌+◌, ◌++◌, [], ◌�
 use Rattle.std.proofs.lemmas.List.{take_all}
 use Rattle.tac_lower.specs.CodeOf.{global_of}
 use Rattle.tac_lower.specs.tools.Interning.{Interned}
-use Rattle.tac_lower.proofs.InternedLists.{each_more}
+use Rattle.tac_lower.proofs.interned.InternedLists.{each_more}
 use Rattle.tac_lower.proofs.types.Interner.globals.Goals as goal
 
 pub loop-global-preserved : goal.loop-global-preserved

@@ -1,7 +1,7 @@
 use Rattle.std.proofs.Common.{◌∙◌, map, subst, sym}
 use Rattle.tac_lower.specs.CodeOf.{finished, need_by}
 use Rattle.tac_lower.specs.tools.Interning.{Interned, with_shape}
-use Rattle.tac_lower.proofs.DraftLaws.{line_of_some}
+use Rattle.tac_lower.proofs.interned.DraftLaws.{line_of_some}
 use Rattle.tac_lower.proofs.types.Interner.line.Goals as goal
 
 pub returns-in_ok-shape-in-Some : goal.returns-in_ok-shape-in-Some

@@ -1,7 +1,7 @@
 use Rattle.std.proofs.Common.{◌≡◌, ◌++◌, [], ◌∷◌, map, rules, subst, sym}
 use Rattle.tac_lower.specs.CodeOf.{all_of, finished, needs_in}
 use Rattle.tac_lower.specs.tools.Interning.{Interned}
-use Rattle.tac_lower.proofs.DraftLaws.{all_lines_more, popped, all_popped}
+use Rattle.tac_lower.proofs.interned.DraftLaws.{all_lines_more, popped, all_popped}
 use Rattle.tac_lower.proofs.types.Interner.lines.Goals as goal
 
 pub loop-drafts-preserved : goal.loop-drafts-preserved

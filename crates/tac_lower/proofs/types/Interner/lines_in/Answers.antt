@@ -1,7 +1,7 @@
 use Rattle.std.proofs.Common.{◌≡◌, ◌++◌, [], ◌∷◌, map, rules, subst, sym}
 use Rattle.tac_lower.specs.CodeOf.{finished, needs_in}
 use Rattle.tac_lower.specs.tools.Interning.{Interned}
-use Rattle.tac_lower.proofs.DraftLaws.{lines_more, popped, all_popped}
+use Rattle.tac_lower.proofs.interned.DraftLaws.{lines_more, popped, all_popped}
 use Rattle.tac_lower.proofs.types.Interner.lines_in.Goals as goal
 
 pub loop-draft-preserved : goal.loop-draft-preserved

@@ -1,7 +1,7 @@
 use Rattle.std.proofs.Common.{◌∙◌, ◌++◌, [], ◌∷◌, map, subst, sym}
 use Rattle.tac_lower.specs.CodeOf.{site_by, site_of}
 use Rattle.tac_lower.specs.tools.Interning.{Interned}
-use Rattle.tac_lower.proofs.DraftLaws.{one_site}
+use Rattle.tac_lower.proofs.interned.DraftLaws.{one_site}
 use Rattle.tac_lower.proofs.types.Interner.site.Goals as goal
 
 pub returns-in_ok-push : goal.returns-in_ok-push

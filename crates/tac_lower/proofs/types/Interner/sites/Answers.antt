@@ -2,7 +2,7 @@ use Rattle.std.proofs.Common.{◌++◌, map, subst, arith}
 use Rattle.std.proofs.lemmas.List.{take_all}
 use Rattle.tac_lower.specs.CodeOf.{all_of, site_of, sites_in}
 use Rattle.tac_lower.specs.tools.Interning.{Interned}
-use Rattle.tac_lower.proofs.DraftLaws.{all_sites_more}
+use Rattle.tac_lower.proofs.interned.DraftLaws.{all_sites_more}
 use Rattle.tac_lower.proofs.types.Interner.sites.Goals as goal
 
 pub loop-drafts-preserved : goal.loop-drafts-preserved

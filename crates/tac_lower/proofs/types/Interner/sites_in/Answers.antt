@@ -2,7 +2,7 @@ use Rattle.std.proofs.Common.{◌++◌, map, subst, arith}
 use Rattle.std.proofs.lemmas.List.{take_all}
 use Rattle.tac_lower.specs.CodeOf.{site_of, sites_in}
 use Rattle.tac_lower.specs.tools.Interning.{Interned}
-use Rattle.tac_lower.proofs.DraftLaws.{sites_more}
+use Rattle.tac_lower.proofs.interned.DraftLaws.{sites_more}
 use Rattle.tac_lower.proofs.types.Interner.sites_in.Goals as goal
 
 pub loop-draft-preserved : goal.loop-draft-preserved

@@ -1,7 +1,7 @@
 use Rattle.std.proofs.Common.{◌+◌, map, sym, subst, take, arith}
 use Rattle.std.proofs.lemmas.List.{take_all}
 use Rattle.tac_lower.specs.tools.Interning.{Interned}
-use Rattle.tac_lower.proofs.InternedLists.{each_more}
+use Rattle.tac_lower.proofs.interned.InternedLists.{each_more}
 use Rattle.tac_lower.proofs.types.Interner.variables.Goals as goal
 
 pub loop-variable-preserved : goal.loop-variable-preserved

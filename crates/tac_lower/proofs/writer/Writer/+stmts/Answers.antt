@@ -5,13 +5,13 @@ use Rattle.tac_lower.specs.tools.Nested.{Forks, branch, closed, guarded, skipped
 use Rattle.tac_lower.specs.Parts.{in_turn, ◌⨟◌}
 use Rattle.tac_lower.specs.Instrs.{jump, skip}
 use Rattle.tac_lower.specs.Stmts.{around_by, stmt, condition, guard, choice, while, for, fork, branches, stop}
-use Rattle.tac_lower.proofs.Chains.{counted_stopped, too_long, dry_stopped}
-use Rattle.tac_lower.proofs.Gathers.{left_from}
-use Rattle.tac_lower.proofs.Follows.{next, halt, exactly, regroup, leaves_loop}
-use Rattle.tac_lower.proofs.StmtForms as form
-use Rattle.tac_lower.proofs.Turns.{next_item, no_item, no_more}
-use Rattle.tac_lower.proofs.Loops.{condition_steady, guard_steady, tested, untested, both_counted, while_turned, while_unturned, while_uncounted, while_body, while_round, while_unrounded, for_turned, for_unturned, for_uncounted, for_step_uncounted, for_body, for_round, for_unrounded}
-use Rattle.tac_lower.proofs.Forking.{fork_more, fork_done, fork_full, branch_full, forked, unforked}
+use Rattle.tac_lower.proofs.emitted.Chains.{counted_stopped, too_long, dry_stopped}
+use Rattle.tac_lower.proofs.emitted.Gathers.{left_from}
+use Rattle.tac_lower.proofs.emitted.Follows.{next, halt, exactly, regroup, leaves_loop}
+use Rattle.tac_lower.proofs.emitted.StmtForms as form
+use Rattle.tac_lower.proofs.emitted.Turns.{next_item, no_item, no_more}
+use Rattle.tac_lower.proofs.emitted.Loops.{condition_steady, guard_steady, tested, untested, both_counted, while_turned, while_unturned, while_uncounted, while_body, while_round, while_unrounded, for_turned, for_unturned, for_uncounted, for_step_uncounted, for_body, for_round, for_unrounded}
+use Rattle.tac_lower.proofs.emitted.Forking.{fork_more, fork_done, fork_full, branch_full, forked, unforked}
 use denote.Param.Weighed.{most, at_most, w_this}
 use Rattle.std.proofs.Common.{List, get_or}
 use Rattle.c_typed.proofs.stmt.Stmt.TheLaws.{the_size}

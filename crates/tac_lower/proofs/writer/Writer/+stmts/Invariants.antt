@@ -5,8 +5,8 @@ use Rattle.tac_lower.specs.Parts.{in_turn}
 use Rattle.tac_lower.specs.Stmts.{around_by, stmt}
 use Rattle.tac_lower.specs.tools.Emits.{Emits}
 use Rattle.tac_lower.specs.tools.Nested.{branch}
-use Rattle.tac_lower.proofs.Turns.{Rest}
-use Rattle.tac_lower.proofs.Forking.{Forking}
+use Rattle.tac_lower.proofs.emitted.Turns.{Rest}
+use Rattle.tac_lower.proofs.emitted.Forking.{Forking}
 use denote.Param.Weighed.{most, w_this}
 use Rattle.c_typed.proofs.stmt.Stmt.TheLaws.{the_size}
 use Rattle.c_typed.specs.declared.stmt.Branch.{Branch}

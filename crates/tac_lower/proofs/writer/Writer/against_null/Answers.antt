@@ -2,7 +2,7 @@ use Rattle.std.proofs.Common.{rules, ◌≡◌, Err, refl, sym, subst}
 use Rattle.tac_lower.specs.Instrs.{null, same}
 use Rattle.tac_lower.specs.tools.Emits.{Emits}
 use Rattle.tac_lower.specs.Values.{against_null}
-use Rattle.tac_lower.proofs.Chains.{follow, stopped}
+use Rattle.tac_lower.proofs.emitted.Chains.{follow, stopped}
 use Rattle.tac_lower.proofs.writer.Writer.against_null.Goals as goal
 
 pub returns-in_err-null : goal.returns-in_err-null

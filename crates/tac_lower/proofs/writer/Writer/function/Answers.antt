@@ -3,8 +3,8 @@ use Rattle.tac_lower.specs.Parts.{in_turn, ◌▷◌, ◌⨟◌}
 use Rattle.tac_lower.specs.Stmts.{around_by, stmt, returned}
 use Rattle.tac_lower.specs.Functions.{parameters_from, default, function, no_loop}
 use Rattle.tac_lower.specs.tools.Emits.{Emits}
-use Rattle.tac_lower.proofs.Chains.{follow, stopped, returned_counts}
-use Rattle.tac_lower.proofs.Follows.{next, halt}
+use Rattle.tac_lower.proofs.emitted.Chains.{follow, stopped, returned_counts}
+use Rattle.tac_lower.proofs.emitted.Follows.{next, halt}
 use Rattle.tac_lower.proofs.writer.Writer.function.Goals as goal
 
 pub returns : goal.returns

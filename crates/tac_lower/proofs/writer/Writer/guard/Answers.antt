@@ -1,4 +1,4 @@
-use Rattle.tac_lower.proofs.Chains.{nothing}
+use Rattle.tac_lower.proofs.emitted.Chains.{nothing}
 use Rattle.tac_lower.proofs.writer.Writer.guard.Goals as goal
 
 pub returns-in-None : goal.returns-in-None

@@ -3,8 +3,8 @@ use Rattle.tac_ir.specs.declared.code.Place.{Place}
 use Rattle.tac_lower.specs.declared.draft.Ends.{Ends}
 use Rattle.tac_lower.specs.Instrs.{set}
 use Rattle.tac_lower.specs.tools.Emits.{Emits}
-use Rattle.tac_lower.proofs.Gathers.{left_from}
-use Rattle.tac_lower.proofs.Parameters.{Parameters, next_parameter, no_parameter, no_more_parameters}
+use Rattle.tac_lower.proofs.emitted.Gathers.{left_from}
+use Rattle.tac_lower.proofs.emitted.Parameters.{Parameters, next_parameter, no_parameter, no_more_parameters}
 use Rattle.tac_lower.proofs.writer.Writer.parameters.Goals as goal
 
 abbrev no_ends : Ends

@@ -2,7 +2,7 @@ use Rattle.std.proofs.Common.{ℕ, ◌≤◌, drop, Result}
 use Rattle.tac_lower.specs.declared.draft.Ends.{Ends}
 use Rattle.tac_lower.specs.declared.writer.Writer.{Writer}
 use Rattle.tac_lower.specs.declared.writer.Stop.{Stop}
-use Rattle.tac_lower.proofs.Parameters.{Parameters}
+use Rattle.tac_lower.proofs.emitted.Parameters.{Parameters}
 use Rattle.tac_lower.proofs.writer.Writer.parameters.Given as goal
 
 -- whatever emits the other parameters now has emitted all

@@ -2,8 +2,8 @@ use Rattle.std.proofs.Common.{sym, subst}
 use Rattle.tac_lower.specs.declared.writer.Spot.{Spot}
 use Rattle.tac_lower.specs.Instrs as spec
 use Rattle.tac_lower.specs.tools.Emits.{Yields, part_at}
-use Rattle.tac_lower.specs.Values.{object_of}
-use Rattle.tac_lower.proofs.Chains.{leaves}
+use Rattle.c_typed.specs.Elaboration.{object_of}
+use Rattle.tac_lower.proofs.emitted.Chains.{leaves}
 use Rattle.tac_lower.proofs.writer.Writer.part.Goals as goal
 
 pub returns-in-Left : goal.returns-in-Left

@@ -3,7 +3,7 @@ use Rattle.tac_lower.specs.Parts.{◌▷◌, ◌⨟◌}
 use Rattle.tac_lower.specs.Instrs.{test, constant, skip, zero_again}
 use Rattle.tac_lower.specs.tools.Emits.{Emits}
 use Rattle.tac_lower.specs.Values.{settled}
-use Rattle.tac_lower.proofs.Chains.{follow, stopped}
+use Rattle.tac_lower.proofs.emitted.Chains.{follow, stopped}
 use Rattle.tac_lower.proofs.writer.Writer.settle.Goals as goal
 
 pub returns-in_err-test : goal.returns-in_err-test

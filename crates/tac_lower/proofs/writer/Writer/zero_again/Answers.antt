@@ -3,7 +3,7 @@ use Rattle.tac_ir.specs.declared.code.Instr.{Instr}
 use Rattle.tac_lower.specs.Parts.{given}
 use Rattle.tac_lower.specs.Instrs as spec
 use Rattle.tac_lower.specs.tools.Emits.{Emits}
-use Rattle.tac_lower.proofs.Chains.{follow, stopped, nothing}
+use Rattle.tac_lower.proofs.emitted.Chains.{follow, stopped, nothing}
 use Rattle.tac_lower.proofs.writer.Writer.zero_again.Goals as goal
 
 pub returns-in_err-quiet : goal.returns-in_err-quiet

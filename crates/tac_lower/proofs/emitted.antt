@@ -1,0 +1,10 @@
+pub mod Chains
+pub mod Gathers
+pub mod Follows
+pub mod StmtForms
+pub mod Turns
+pub mod Loops
+pub mod Forking
+pub mod Products
+pub mod Drafting
+pub mod Parameters

@@ -1,0 +1,5 @@
+pub mod Interns
+pub mod InternedLists
+pub mod KeyLaws
+pub mod WholeCode
+pub mod DraftLaws

@@ -1,0 +1,4 @@
+pub mod Small
+pub mod SmallStmts
+pub mod Rows
+pub mod MoreRows
