@@ -1,5 +1,5 @@
 -- A program: its sites, its functions and their bodies, and what thread 1 does.
-use Rattle.std.specs.Prelude.{ℕ, zero, suc, ◌+◌, pos, List, [], ◌∷◌, map, take, sum, length, slice_get, Option, Some, None}
+use Rattle.std.specs.Prelude.{refl, ℕ, zero, suc, ◌+◌, pos, List, [], ◌∷◌, map, take, sum, length, slice_get, Option, Some, None}
 use Rattle.c_typed.specs.Typed.{Typed}
 use Rattle.c_typed.specs.Types.{words_of}
 use Rattle.c_typed.specs.IsWell.{sizes_in}
@@ -10,6 +10,7 @@ use Rattle.obj_mem.specs.declared.value.Value.{Value}
 use Rattle.obj_mem.specs.declared.event.Event.{Event}
 use Rattle.obj_mem.specs.Objects.{of_main}
 use Rattle.src_meaning.specs.Acts.{End, returned, a_value, nothing, Act, ◌▷◌, ◌⨟◌}
+use Rattle.src_meaning.specs.Operators.{wrong}
 use Rattle.src_meaning.specs.Exprs.{Around, local_place}
 use Rattle.src_meaning.specs.Stmts.{in_turn, stmt}
 
@@ -46,37 +47,30 @@ abbrev pub default_of : Option ObjectType → Value
 default_of None = Value.Int (pos 0)
 default_of (Some t) = default_by t.stars
 
-abbrev pub value_of : Option ObjectType → End → Value
-value_of result (returned v) = v
-value_of result e = default_of result
+abbrev pub value_at : Option ObjectType → End → Value
+value_at result (returned v) = v
+value_at result e = default_of result
 
 -- the arguments are written to the parameters, from this one on
 abbrev pub passed : Around → ℕ → List Value → Act nothing
 passed c k [] = Act.gives tt
-passed c k (v ∷ vs) = Act.tells (Event.Wr (local_place c k) v) ⨟ passed c (suc k) vs
+passed c k (v ∷ vs) = Act.does (Event.Wr (local_place c k) v) refl ⨟ passed c (suc k) vs
 
 abbrev pub body_in : Around → Function → List Value → Act a_value
-body_in c f vs = passed c 0 vs ⨟ in_turn (map (stmt c) f.body) ▷ λ e. Act.gives (value_of f.result e)
+body_in c f vs = passed c 0 vs ⨟ in_turn (map (stmt c) f.body) ▷ λ e. Act.gives (value_at f.result e)
 
-abbrev pub body_of : Typed → ℕ → Option Function → Maker → List Value → Option (Act a_value)
-body_of t k None m vs = None
-body_of t k (Some f) m vs = Some (body_in (around t k f m) f vs)
+-- (where there is none, it has no meaning)
+abbrev pub body_of : Typed → ℕ → Option Function → Maker → List Value → Act a_value
+body_of t k None m vs = wrong
+body_of t k (Some f) m vs = body_in (around t k f m) f vs
 
 abbrev pub with_return : Act a_value → Act a_value
-with_return a = a ▷ λ v. Act.tells Event.Ret ⨟ Act.gives v
-
-abbrev pub with_return_there : Option (Act a_value) → Option (Act a_value)
-with_return_there None = None
-with_return_there (Some a) = Some (with_return a)
+with_return a = a ▷ λ v. Act.does Event.Ret refl ⨟ Act.gives v
 
 -- what a call of function k does in its frame, with its arguments
-abbrev pub body : Typed → ℕ → Maker → List Value → Option (Act a_value)
-body t k m vs = with_return_there (body_of t k (slice_get t.functions k) m vs)
+abbrev pub body : Typed → ℕ → Maker → List Value → Act a_value
+body t k m vs = with_return (body_of t k (slice_get t.functions k) m vs)
 
 -- `main` has neither a call nor a return
-abbrev pub or_stuck : Option (Act a_value) → Act a_value
-or_stuck None = Act.stops Event.Bad
-or_stuck (Some a) = a
-
 abbrev pub main_act : Typed → Act a_value
-main_act t = or_stuck (body_of t t.main (slice_get t.functions t.main) of_main [])
+main_act t = body_of t t.main (slice_get t.functions t.main) of_main []

@@ -1,5 +1,5 @@
 -- What statements do (C99 6.8, and `par`), one clause a form.
-use Rattle.std.specs.Prelude.{pos, true, List, [], ◌∷◌, Option, Some, None}
+use Rattle.std.specs.Prelude.{refl, pos, true, List, [], ◌∷◌, Option, Some, None}
 use Rattle.c_ast.specs.declared.stmt.AssignOp.{AssignOp}
 use Rattle.c_typed.specs.Stmts.{scalar_at}
 use Rattle.c_typed.specs.declared.types.ExprType.{ExprType}
@@ -12,11 +12,11 @@ use Rattle.obj_mem.specs.declared.value.Value.{Value}
 use Rattle.obj_mem.specs.declared.event.Event.{Event}
 use Rattle.obj_mem.specs.Asked.{out_event}
 use Rattle.src_meaning.specs.Acts.{End, done, broken, again, returned, a_value, a_truth, an_end, Act, Acts, ◌▷◌, ◌⨟◌}
-use Rattle.src_meaning.specs.Operators.{updated}
+use Rattle.src_meaning.specs.Operators.{wrong, updated}
 use Rattle.src_meaning.specs.Exprs.{Around, sizes, Meant, truth, chosen, expr}
 
-abbrev pub is_done : Act an_end
-is_done = Act.gives done
+abbrev pub skip : Act an_end
+skip = Act.gives done
 
 -- where the first ends by `break`, `continue` or `return`, so do both
 abbrev pub where_done : Act an_end → End → Act an_end
@@ -24,16 +24,16 @@ where_done next done = next
 where_done next e = Act.gives e
 
 abbrev pub in_turn : List (Act an_end) → Act an_end
-in_turn [] = is_done
+in_turn [] = skip
 in_turn (a ∷ rest) = a ▷ where_done (in_turn rest)
 
 abbrev pub ignored : Act a_value → Act an_end
-ignored a = a ▷ λ v. is_done
+ignored a = a ▷ λ v. skip
 
 -- Assignments: the place, then the value; one with an operator reads the old value before the operand.
 
 abbrev pub write : Value → Value → Act an_end
-write p v = Act.tells (Event.Wr p v) ⨟ is_done
+write p v = Act.does (Event.Wr p v) refl ⨟ skip
 
 -- the type of what stands at a place, a pointer or an int
 abbrev pub or_int : Option ExprType → ExprType
@@ -45,7 +45,7 @@ assigned_type t = or_int (scalar_at t)
 
 abbrev pub compound : Around → AssignOp → Meant → Act a_value → Act an_end
 compound c op target operand =
-    target.act ▷ λ p. Act.finds (Event.Rd p) ▷ λ old. operand ▷ λ v. updated (sizes c) op (assigned_type target.typing) old v ▷ write p
+    target.act ▷ λ p. Act.does (Event.Rd p) refl ▷ λ old. operand ▷ λ v. updated (sizes c) op (assigned_type target.typing) old v ▷ write p
 
 abbrev pub assigned : Around → AssignOp → Meant → Act a_value → Act an_end
 assigned c AssignOp.Plain target value = target.act ▷ λ p. value ▷ write p
@@ -56,8 +56,8 @@ one = Act.gives (Value.Int (pos 1))
 
 -- Output: what is no number has no meaning.
 abbrev pub told : Event → Act an_end
-told Event.Bad = Act.stops Event.Bad
-told e = Act.tells e ⨟ is_done
+told (Event.Out k) = Act.does (Event.Out k) refl ⨟ skip
+told e = wrong
 
 -- Conditions.
 
@@ -70,7 +70,7 @@ guard c None = Act.gives true
 guard c (Some d) = condition c d
 
 abbrev pub or_nothing : Option (Act an_end) → Act an_end
-or_nothing None = is_done
+or_nothing None = skip
 or_nothing (Some a) = a
 
 -- Returns: without a value it is 0.
@@ -90,12 +90,12 @@ layer c (Stmt-F.Increment line target) = compound c AssignOp.Add (expr c target)
 layer c (Stmt-F.Decrement line target) = compound c AssignOp.Sub (expr c target) one
 layer c (Stmt-F.Call line e) = ignored (expr c e).act
 layer c (Stmt-F.PutInt line e) = (expr c e).act ▷ λ v. told (out_event v)
-layer c (Stmt-F.Free line e) = (expr c e).act ▷ λ p. told (Event.Free p)
+layer c (Stmt-F.Free line e) = (expr c e).act ▷ λ p. Act.does (Event.Free p) refl ⨟ skip
 layer c (Stmt-F.Return line e) = result c e
 layer c (Stmt-F.Break line) = Act.gives broken
 layer c (Stmt-F.Continue line) = Act.gives again
 layer c (Stmt-F.If line d first second) = condition c d ▷ chosen first (or_nothing second)
-layer c (Stmt-F.While line d body) = Act.loops (condition c d) body is_done
+layer c (Stmt-F.While line d body) = Act.loops (condition c d) body skip
 layer c (Stmt-F.For line start d step body) = start ▷ where_done (Act.loops (guard c d) body step)
 layer c (Stmt-F.Par line bs) = Act.forks (branches bs)
 

@@ -1,14 +1,12 @@
 -- What a thread does by the answers that it hears.
-use Rattle.std.specs.Prelude.{ℕ, List, [], ◌∷◌}
+use Rattle.std.specs.Prelude.{List, [], ◌∷◌, Option, Some, None}
 use Rattle.obj_mem.specs.declared.Maker.{Maker}
-use Rattle.obj_mem.specs.declared.value.Value.{Value}
 use Rattle.obj_mem.specs.declared.event.Event.{Event}
 use Rattle.obj_mem.specs.declared.event.SrcAnswer.{SrcAnswer}
-
--- the answer of its event, or, behind a fork, that it is branch i of it
-pub data Heard : Type 0 where
-  answer : SrcAnswer → Heard
-  branch : ℕ → Heard
+pub use Rattle.src_meaning.specs.declared.heard.Heard.{Heard}
+pub use Rattle.src_meaning.specs.declared.heard.Heard.TheVariants.{Answer as answer, Branch as branch}
+use Rattle.src_meaning.specs.Acts.{Kind, Result}
+use Rattle.src_meaning.specs.Traces.{result_in}
 
 pub data Res (A : Type 0) : Type 0 where
   -- this result, and what is still to be heard
@@ -42,9 +40,12 @@ abbrev pub unit_of : SrcAnswer → List Heard → Res (Unit {0})
 unit_of SrcAnswer.Unit l = got tt l
 unit_of a l = off
 
-abbrev pub value_of : SrcAnswer → List Heard → Res Value
-value_of (SrcAnswer.Value v) l = got v l
-value_of a l = off
+abbrev pub got_by : {A : Type 0} → Option A → List Heard → Res A
+got_by (Some x) l = got x l
+got_by None l = off
+
+abbrev pub result_of : (k : Kind) → SrcAnswer → List Heard → Res (Result k)
+result_of k a l = got_by (result_in k a) l
 
 abbrev pub frame_of : SrcAnswer → List Heard → Res Maker
 frame_of (SrcAnswer.Frame m) l = got m l

@@ -7,7 +7,7 @@ use Rattle.obj_mem.specs.declared.event.SrcAnswer.{SrcAnswer}
 use Rattle.obj_mem.specs.declared.event.Stamp.{Stamp}
 use Rattle.obj_mem.specs.declared.run.SrcEnd.{SrcEnd}
 use Rattle.obj_mem.specs.Valid.{answer_of}
-use Rattle.src_meaning.specs.Runs.{end_by}
+use Rattle.src_meaning.specs.Runs.{end_by, is_zero}
 use Rattle.src_meaning.specs.Traces.{by}
 use Rattle.src_meaning.specs.tools.Heard.{Heard, answer, branch, Res, got, wants, ended, off, Reads}
 
@@ -29,14 +29,14 @@ abbrev pub heard : List Heard → List Stamp → List Heard
 heard start own = start ++ reverse (map heard_of own)
 
 -- (threads that are 15 deep do nothing)
-abbrev pub at : Reads Value → List Heard → List Stamp → Res Value
+abbrev pub at : {A : Type 0} → Reads A → List Heard → List Stamp → Res A
 at reads start own = elim (nat_le (depth start) 14) [ true ↦ reads (heard start own) | false ↦ off ]
 
-abbrev pub wanted : Res Value → Option Event
+abbrev pub wanted : {A : Type 0} → Res A → Option Event
 wanted (wants e) = Some e
 wanted r = None
 
-abbrev pub is_settled : Res Value → Bool
+abbrev pub is_settled : {A : Type 0} → Res A → Bool
 is_settled (got v []) = true
 is_settled ended = true
 is_settled r = false
@@ -45,7 +45,7 @@ is_settled r = false
 abbrev pub begins_by : List Heard → List Stamp → ℕ → List Heard
 begins_by parent own i = heard parent own ++ answer SrcAnswer.Unit ∷ branch i ∷ []
 
-abbrev pub threads_of : Reads Value → Kind Stamp (List Heard) Event
+abbrev pub threads_of : {A : Type 0} → Reads A → Kind Stamp (List Heard) Event
 threads_of reads = record {
   name_of = λ s. s.name.0;
   branches_of = λ s. forked_by s.event;
@@ -56,7 +56,7 @@ threads_of reads = record {
 }
 
 -- how the life of thread n began
-unfoldable pub start_of : Reads Value → List Stamp → ℕ → Option (List Heard)
+unfoldable pub start_of : {A : Type 0} → Reads A → List Stamp → ℕ → Option (List Heard)
 unfolding own
 start_of reads [] n = elim (nat_eq n 1) [ true ↦ Some [] | false ↦ None ]
 start_of reads (s ∷ h) n =
@@ -65,10 +65,10 @@ start_of reads (s ∷ h) n =
       | true ↦ elim (start_of reads h (n / 16)) [ None ↦ None | Some parent ↦ Some (begins_by parent (own (threads_of reads) (n / 16) h) (n % 16)) ]
     ]
 
-abbrev pub result_of : Reads Value → List Stamp → ℕ → Res Value
-result_of reads h n = elim (start_of reads h n) [ None ↦ off | Some s ↦ at reads s (own (threads_of reads) n h) ]
+abbrev pub life_of : {A : Type 0} → Reads A → List Stamp → ℕ → Res A
+life_of reads h n = elim (start_of reads h n) [ None ↦ off | Some s ↦ at reads s (own (threads_of reads) n h) ]
 
-abbrev pub branches_now : Reads Value → List Stamp → ℕ → ℕ
+abbrev pub branches_now : {A : Type 0} → Reads A → List Stamp → ℕ → ℕ
 branches_now reads h n = branches_after (threads_of reads) (own (threads_of reads) n h)
 
 -- the test holds of 1, 2 and so on, so many
@@ -77,53 +77,58 @@ all_up_to zero p = true
 all_up_to (suc n) p = elim (p (suc n)) [ true ↦ all_up_to n p | false ↦ false ]
 
 -- a thread and all its branches have come to their ends; so many generations are looked at
-unfoldable pub has_ended : ℕ → Reads Value → List Stamp → ℕ → Bool
+unfoldable pub has_ended : {A : Type 0} → ℕ → Reads A → List Stamp → ℕ → Bool
 unfolding own start_of
 has_ended zero reads h n = false
 has_ended (suc turns) reads h n =
-    elim (is_settled (result_of reads h n)) [ false ↦ false | true ↦ all_up_to (branches_now reads h n) (λ i. has_ended turns reads h (16 * n + i)) ]
+    elim (is_settled (life_of reads h n)) [ false ↦ false | true ↦ all_up_to (branches_now reads h n) (λ i. has_ended turns reads h (16 * n + i)) ]
 
 abbrev pub generations : ℕ
 generations = 16
 
-abbrev pub next_of : Reads Value → List Stamp → ℕ → Option Event
+abbrev pub next_of : {A : Type 0} → Reads A → List Stamp → ℕ → Option Event
 next_of reads h n =
-    elim (all_up_to (branches_now reads h n) (λ i. has_ended generations reads h (16 * n + i))) [ true ↦ wanted (result_of reads h n) | false ↦ None ]
+    elim (all_up_to (branches_now reads h n) (λ i. has_ended generations reads h (16 * n + i))) [ true ↦ wanted (life_of reads h n) | false ↦ None ]
 
 pub data Ran : Type 0 where
   -- the events, the newest first, and how the run ends
   ran : List Stamp → SrcEnd → Ran
-  -- so many names are left, the first of which is not runnable
+  -- the name at this place, from 1, is not runnable
   refused : ℕ → Ran
 
-abbrev pub has_zero : List Stamp → Bool
-has_zero [] = false
-has_zero (s ∷ h) = elim s.event [ Event.Zero ↦ true | _ ↦ false ]
+abbrev pub has_trapped : List Stamp → Bool
+has_trapped [] = false
+has_trapped (s ∷ h) = is_zero s.event
+
+abbrev pub ended_by : Res Value → Option SrcEnd
+ended_by (got v l) = Some (end_by v)
+ended_by r = None
 
 -- how a run has ended, if it has
 abbrev pub end_of : Reads Value → List Stamp → Option SrcEnd
 end_of reads h =
-    elim (has_zero h) [
+    elim (has_trapped h) [
       | true ↦ Some SrcEnd.Trap
-      | false ↦ elim (has_ended generations reads h 1) [ false ↦ None | true ↦ elim (result_of reads h 1) [ got v l ↦ Some (end_by v) | _ ↦ None ] ]
+      | false ↦ elim (has_ended generations reads h 1) [ true ↦ ended_by (life_of reads h 1) | false ↦ None ]
     ]
 
 abbrev pub or_cut : Option SrcEnd → SrcEnd
 or_cut None = SrcEnd.Cut
 or_cut (Some e) = e
 
+-- behind an invalid event
 abbrev pub invalid_only : List Stamp → List ℕ → Ran
 invalid_only h [] = ran h SrcEnd.Invalid
-invalid_only h (n ∷ ns) = refused (suc (length ns))
+invalid_only h (n ∷ ns) = refused (suc (suc (length h)))
 
 unfoldable pub run_from : Reads Value → List Stamp → List Stamp → List ℕ → Ran
 unfolding own start_of has_ended
 run_from reads opening h [] = ran h (or_cut (end_of reads h))
 run_from reads opening h (n ∷ ns) =
-    elim (end_of reads h) [
-      | Some e ↦ refused (suc (length ns))
-      | None ↦ elim (next_of reads h n) [
-        | None ↦ refused (suc (length ns))
+    elim (has_trapped h) [
+      | true ↦ refused (suc (length h))
+      | false ↦ elim (next_of reads h n) [
+        | None ↦ refused (suc (length h))
         | Some e ↦ elim (answer_of (h ++ opening) n e) [
           | None ↦ invalid_only h ns
           | Some a ↦ run_from reads opening (by n e a ∷ h) ns
