@@ -9,6 +9,7 @@ pub mod Tally
 pub mod Limits
 pub mod Numbers
 pub mod Zones
+pub mod Parted
 pub mod Holds
 pub mod Fits
 pub mod Names
@@ -23,6 +24,8 @@ pub mod Functions
 pub mod Shapes
 pub mod Structs
 pub mod Known
+pub mod Declared
+pub mod Potential
 pub mod Worlds
 pub mod Code
 pub mod Program

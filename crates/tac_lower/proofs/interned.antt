@@ -3,3 +3,4 @@ pub mod InternedLists
 pub mod KeyLaws
 pub mod WholeCode
 pub mod DraftLaws
+pub mod FewShapes

@@ -1,8 +1,9 @@
 //! Code, from drafts.
 
 ghost use Rattle.std.specs.Prelude.{◌≡◌, reverse, IfOk};
-ghost use Rattle.tac_lower.specs.CodeOf.{code_with};
-ghost use Rattle.tac_lower.specs.tools.Interning.{joined};
+ghost use Rattle.tac_lower.specs.CodeOf.{all_of, types_needed, code_with};
+ghost use Rattle.tac_lower.specs.Shapes.{shapes_of};
+ghost use Rattle.tac_lower.specs.tools.Interning.{AreFew, joined};
 
 use crate::draft::Draft;
 use crate::structs::Structs;
@@ -57,6 +58,7 @@ pub(crate) fn finish(
     program: &Typed,
     drafts: Items<Items<Draft>>,
 ) -> Result<Code, Memory>
+    requires { AreFew (shapes_of program.now.structs (types_needed program.now (all_of drafts))) }
     ensures { IfOk result (λ code. code ≡ code_with program.now drafts) }
 {
     let items = program.structs.as_slice();

@@ -11,9 +11,6 @@ use c_typed::{Typed, typed_is_well};
 use std::alloc::Global;
 use tac_ir::Code;
 
-/// As many shapes as no code has.
-const MOST_SHAPES: usize = 2_147_483_648;
-
 /// Each typed program is well-formed.
 fn known(program: &Typed)
     ensures { IsWell program.now }
@@ -29,9 +26,6 @@ pub fn lower(alloc: Global, program: &Typed) -> Result<Code, LowerFault>
     known(program);
     let drafts = emit_functions(alloc, program)?;
     let code = finish(alloc, program, drafts)?;
-    if code.shapes.len() >= MOST_SHAPES {
-        return Err(LowerFault::Memory);
-    }
     match passed(alloc, &code)? {
         None => Ok(code),
         Some(fault) => Err(fault),

@@ -2,7 +2,8 @@
 
 ghost use Rattle.std.specs.Prelude.{◌≡◌, ◌++◌, map, IfOk, OnOk};
 ghost use Rattle.tac_lower.specs.CodeOf as spec;
-ghost use Rattle.tac_lower.specs.tools.Interning.{IsKept, Interned, is_new, with_shape};
+ghost use Rattle.tac_lower.specs.Shapes.{shapes_from};
+ghost use Rattle.tac_lower.specs.tools.Interning.{AreFew, IsKept, Interned, is_new, with_shape};
 
 use crate::draft::Draft;
 use crate::finish::reversed;
@@ -36,7 +37,8 @@ impl Interner {
         structs: &Structs,
         globals: &[Global],
     ) -> Result<Items<tac_ir::Global>, Memory>
-        requires { IsKept structs.now self.old.known.items self.old.shapes }
+        requires kept { IsKept structs.now self.old.known.items self.old.shapes }
+        requires few { AreFew (shapes_from structs.now self.old.shapes (map (λ g. g.object) globals.now)) }
         ensures { IfOk result (λ made. Interned structs.now (map (λ g. g.object) globals.now) (λ shape. map (spec.global_of shape) globals.now) self.old self.new made) }
     {
         let mut made = Items::new(structs.alloc());
@@ -52,7 +54,8 @@ impl Interner {
     }
 
     fn variables(&mut self, structs: &Structs, variables: &[Variable]) -> Result<Items<u32>, Memory>
-        requires { IsKept structs.now self.old.known.items self.old.shapes }
+        requires kept { IsKept structs.now self.old.known.items self.old.shapes }
+        requires few { AreFew (shapes_from structs.now self.old.shapes (map (λ v. v.object) variables.now)) }
         ensures { IfOk result (λ made. Interned structs.now (map (λ v. v.object) variables.now) (λ shape. map (λ v. shape v.object) variables.now) self.old self.new made) }
     {
         let mut made = Items::new(structs.alloc());
@@ -69,7 +72,8 @@ impl Interner {
         structs: &Structs,
         functions: &[Function],
     ) -> Result<Items<Items<u32>>, Memory>
-        requires { IsKept structs.now self.old.known.items self.old.shapes }
+        requires kept { IsKept structs.now self.old.known.items self.old.shapes }
+        requires few { AreFew (shapes_from structs.now self.old.shapes (spec.variables_in functions.now)) }
         ensures { IfOk result (λ made. Interned structs.now (spec.variables_in functions.now) (λ shape. map (λ f. map (λ v. shape v.object) f.variables) functions.now) self.old self.new made) }
     {
         let mut made = Items::new(structs.alloc());
@@ -87,7 +91,8 @@ impl Interner {
         draft: &Draft,
         sites: &mut Items<Site>,
     ) -> Result<(), Memory>
-        requires { IsKept structs.now self.old.known.items self.old.shapes }
+        requires kept { IsKept structs.now self.old.known.items self.old.shapes }
+        requires few { AreFew (shapes_from structs.now self.old.shapes (map (λ i. i.object) (spec.site_by draft.now.line draft.now.object draft.now.instr))) }
         ensures { OnOk result (Interned structs.now (map (λ i. i.object) (spec.site_by draft.now.line draft.now.object draft.now.instr))
             (λ shape. sites.old ++ map (spec.site_of shape) (spec.site_by draft.now.line draft.now.object draft.now.instr)) self.old self.new sites.new) }
     {
@@ -110,7 +115,8 @@ impl Interner {
         drafts: &[Draft],
         sites: &mut Items<Site>,
     ) -> Result<(), Memory>
-        requires { IsKept structs.now self.old.known.items self.old.shapes }
+        requires kept { IsKept structs.now self.old.known.items self.old.shapes }
+        requires few { AreFew (shapes_from structs.now self.old.shapes (map (λ i. i.object) (spec.sites_in drafts.now))) }
         ensures { OnOk result (Interned structs.now (map (λ i. i.object) (spec.sites_in drafts.now))
             (λ shape. sites.old ++ map (spec.site_of shape) (spec.sites_in drafts.now)) self.old self.new sites.new) }
     {
@@ -126,7 +132,8 @@ impl Interner {
         structs: &Structs,
         drafts: &[Items<Draft>],
     ) -> Result<Items<Site>, Memory>
-        requires { IsKept structs.now self.old.known.items self.old.shapes }
+        requires kept { IsKept structs.now self.old.known.items self.old.shapes }
+        requires few { AreFew (shapes_from structs.now self.old.shapes (map (λ i. i.object) (spec.sites_in (spec.all_of drafts.now)))) }
         ensures { IfOk result (λ made. Interned structs.now (map (λ i. i.object) (spec.sites_in (spec.all_of drafts.now)))
             (λ shape. map (spec.site_of shape) (spec.sites_in (spec.all_of drafts.now))) self.old self.new made) }
     {
@@ -139,7 +146,8 @@ impl Interner {
 
     /// The line of a draft, with its shape's number.
     fn line(&mut self, structs: &Structs, draft: Draft) -> Result<Lined, Memory>
-        requires { IsKept structs.now self.old.known.items self.old.shapes }
+        requires kept { IsKept structs.now self.old.known.items self.old.shapes }
+        requires few { AreFew (shapes_from structs.now self.old.shapes (map (λ i. i.object) (spec.need_by draft.line draft.object draft.instr))) }
         ensures { IfOk result (λ made. Interned structs.now (map (λ i. i.object) (spec.need_by draft.line draft.object draft.instr)) (λ shape. spec.finished shape draft) self.old self.new made) }
     {
         let Draft {
@@ -158,7 +166,8 @@ impl Interner {
     }
 
     fn lines_in(&mut self, structs: &Structs, drafts: Items<Draft>) -> Result<Items<Lined>, Memory>
-        requires { IsKept structs.now self.old.known.items self.old.shapes }
+        requires kept { IsKept structs.now self.old.known.items self.old.shapes }
+        requires few { AreFew (shapes_from structs.now self.old.shapes (map (λ i. i.object) (spec.needs_in drafts))) }
         ensures { IfOk result (λ made. Interned structs.now (map (λ i. i.object) (spec.needs_in drafts)) (λ shape. map (spec.finished shape) drafts) self.old self.new made) }
     {
         let mut left = reversed(structs.alloc(), drafts)?;
@@ -175,7 +184,8 @@ impl Interner {
         structs: &Structs,
         drafts: Items<Items<Draft>>,
     ) -> Result<Items<Items<Lined>>, Memory>
-        requires { IsKept structs.now self.old.known.items self.old.shapes }
+        requires kept { IsKept structs.now self.old.known.items self.old.shapes }
+        requires few { AreFew (shapes_from structs.now self.old.shapes (map (λ i. i.object) (spec.needs_in (spec.all_of drafts)))) }
         ensures { IfOk result (λ made. Interned structs.now (map (λ i. i.object) (spec.needs_in (spec.all_of drafts))) (λ shape. map (λ ds. map (spec.finished shape) ds) drafts) self.old self.new made) }
     {
         let mut left = reversed(structs.alloc(), drafts)?;

@@ -3,6 +3,7 @@
 ghost use Rattle.std.specs.Prelude.{◌≡◌, [], ◌∷◌, IfOk};
 ghost use Rattle.tac_ir.specs.declared.code.Shape.{Shape};
 ghost use Rattle.tac_lower.specs.tools.Keys.{shape_of};
+ghost use Rattle.tac_lower.specs.tools.Interning.{AreFew};
 ghost use Rattle.tac_lower.specs.Shapes.{entered, array_entry};
 
 use dfi_base::Memory;
@@ -50,17 +51,16 @@ impl Shapes {
 
     /// The number of a shape, which is the next one where the shape is new.
     pub(crate) fn number(&mut self, key: Key) -> Result<u32, Memory>
+        requires { AreFew (entered self.old (shape_of key)).shapes }
         ensures { IfOk result (λ n. entered self.old (shape_of key) ≡ record { shapes = self.new; number = n }) }
     {
         let (place, _) = self.keys.insert_full(key)?;
-        let Ok(number) = u32::try_from(place) else {
-            return Err(Memory);
-        };
-        Ok(number)
+        Ok(place as u32)
     }
 
     /// The number of arrays of these lengths, the outermost first, of a shape.
     pub(crate) fn arrays(&mut self, lengths: &[u32], item: u32) -> Result<u32, Memory>
+        requires { AreFew (array_entry lengths.now (record { shapes = self.old; number = item })).shapes }
         ensures { IfOk result (λ n. array_entry lengths.now (record { shapes = self.old; number = item }) ≡ record { shapes = self.new; number = n }) }
     {
         let mut number = item;

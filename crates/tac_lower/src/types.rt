@@ -2,8 +2,8 @@
 
 ghost use Rattle.std.specs.Prelude.{◌≡◌, ◌≤◌, [], ◌∷◌, length, IfOk};
 ghost use Rattle.tac_ir.specs.declared.code.Shape.{Shape};
-ghost use Rattle.tac_lower.specs.tools.Interning.{IsKept, Entered, Enters, Interned, first_structs};
-ghost use Rattle.tac_lower.specs.Shapes.{base_entry, object_entry, part_entries};
+ghost use Rattle.tac_lower.specs.tools.Interning.{AreFew, IsKept, Entered, Enters, Interned, first_structs};
+ghost use Rattle.tac_lower.specs.Shapes.{base_entry, object_entry, part_entries, entry};
 
 use crate::shapes::{Key, Shapes};
 use crate::structs::Structs;
@@ -37,6 +37,7 @@ impl Interner {
     ) -> Result<u32, Memory>
         requires limit { limit ≤ length structs.now }
         requires kept { IsKept structs.now self.old.known.items self.old.shapes }
+        requires few { AreFew (first_structs structs.now limit number self.old.shapes).shapes }
         ensures { IfOk result (λ n. Enters structs.now (first_structs structs.now limit number) self.old self.new n) }
     {
         if number >= limit {
@@ -62,6 +63,7 @@ impl Interner {
     ) -> Result<Vec<u32>, Memory>
         requires limit { limit ≤ length structs.now }
         requires kept { IsKept structs.now self.old.known.items self.old.shapes }
+        requires few { AreFew (part_entries (first_structs structs.now limit) [] fields.now self.old.shapes).shapes }
         ensures { IfOk result (λ parts. Entered structs.now
             (λ shapes. (part_entries (first_structs structs.now limit) [] fields.now shapes).shapes)
             (λ shapes. (part_entries (first_structs structs.now limit) [] fields.now shapes).numbers) self.old self.new parts.items) }
@@ -84,6 +86,7 @@ impl Interner {
     ) -> Result<u32, Memory>
         requires limit { limit ≤ length structs.now }
         requires kept { IsKept structs.now self.old.known.items self.old.shapes }
+        requires few { AreFew (base_entry (first_structs structs.now limit) base stars self.old.shapes).shapes }
         ensures { IfOk result (λ n. Enters structs.now (base_entry (first_structs structs.now limit) base stars) self.old self.new n) }
     {
         if stars > 0 {
@@ -104,6 +107,7 @@ impl Interner {
     ) -> Result<u32, Memory>
         requires limit { limit ≤ length structs.now }
         requires kept { IsKept structs.now self.old.known.items self.old.shapes }
+        requires few { AreFew (object_entry (first_structs structs.now limit) object.now self.old.shapes).shapes }
         ensures { IfOk result (λ n. Enters structs.now (object_entry (first_structs structs.now limit) object.now) self.old self.new n) }
     {
         let item = self.base(structs, limit, object.base, object.stars)?;
@@ -112,7 +116,8 @@ impl Interner {
 
     /// The number of the shape of a type.
     pub(crate) fn number(&mut self, structs: &Structs, object: &ObjectType) -> Result<u32, Memory>
-        requires { IsKept structs.now self.old.known.items self.old.shapes }
+        requires kept { IsKept structs.now self.old.known.items self.old.shapes }
+        requires few { AreFew (entry structs.now object.now self.old.shapes).shapes }
         ensures { IfOk result (λ n. Interned structs.now (object.now ∷ []) (λ shape. shape object.now) self.old self.new n) }
     {
         self.object(structs, structs.len(), object)

@@ -31,6 +31,8 @@ use Rattle.tac_lower.proofs.form.Holds.{World}
 use Rattle.tac_lower.proofs.form.Names.{Shaped}
 use Rattle.tac_lower.proofs.interned.DraftLaws.{objects}
 use Rattle.tac_lower.proofs.form.Worlds.{FunAt, fun_at, funs_length, There, AllThere, drafts_there, all_parts, variables_get, times_some}
+use Rattle.tac_lower.proofs.form.Parted.{Parted}
+use Rattle.tac_lower.proofs.form.Declared.{declared_types, structs_listed, globals_parted, variables_parted}
 use Rattle.tac_lower.proofs.form.Known.{needed_known, StructKnown, struct_known, array_known, IsBasic, int, pointer, unknown, basic}
 
 -- the bodies of its functions
@@ -151,7 +153,7 @@ module _ (t : Typed) (well : IsWell t) (bodies : Each (λ f. AreStmts (context_o
 
   -- one function in the code of all
   abbrev pub world : ℕ → List Lined → World
-  world k lines = record { structs = t.structs; code = code_of t; fun = k; lines = lines; shape = shape }
+  world k lines = record { structs = t.structs; types = declared_types t; code = code_of t; fun = k; lines = lines; shape = shape }
 
   pub shaped : (k : ℕ) (f : Function) (lines : List Lined) → slice_get t.functions k ≡ Some f → Shaped (world k lines) (context_of t f) (sizes_of t)
   shaped k f lines found = record {
@@ -169,6 +171,9 @@ module _ (t : Typed) (well : IsWell t) (bodies : Each (λ f. AreStmts (context_o
     parts = λ o j d is there stands.
         ap (λ x. elim x as (λ x. List ℕ) [ Some (Shape.Struct parts) ↦ parts | _ ↦ [] ]) (struct_stands o j d is there stands).there;
     fields = λ o j d i u is there has stands. each_get Stands d.fields i u (struct_stands o j d is there stands).fields has;
+    global_types = λ i o has. each_get (Parted (declared_types t)) globals i o (globals_parted t) has;
+    variable_types = λ i o has. each_get (Parted (declared_types t)) (objects_of f.variables) i o (variables_get (Parted (declared_types t)) t.functions k f (variables_parted t) found) has;
+    field_types = λ j d i u there has. each_get (Parted (declared_types t)) d.fields i u (structs_listed t j d there).fields has;
     arrays = λ o n ns is stands.
         (let there = array_known t.structs (code_of t).shapes o n ns is stands in
         ap (λ x. elim x as (λ x. Bool) [ Some (Shape.Array len item) ↦ true | _ ↦ false ]) there.1);

@@ -22,7 +22,8 @@ use Rattle.tac_lower.specs.Instrs.{constant, address, field, decay, index, get, 
 use Rattle.tac_lower.specs.Values.{Yield, direct, left, value, part_of, read, pointer_to, truth_by, truth, prefix, carried, binary_by, form_step, expr}
 use Rattle.tac_lower.proofs.pieces.Levels.{mapped, typing_is}
 use Rattle.tac_lower.proofs.emitted.Chains.{truth_counts, prefix_counts, carried_counts}
-use Rattle.tac_lower.proofs.form.Holds.{holds_given, World, Known, Anywhere, holds_seq, holds_then}
+use Rattle.tac_lower.proofs.form.Holds.{holds_given, World, Known, IsDeclared, Anywhere, holds_seq, holds_then}
+use Rattle.tac_lower.proofs.form.Parted.{Parted, PartedTyping, no_arrays, scalar_parted, decay_parted, called_parted, binary_parted}
 use Rattle.tac_lower.proofs.form.Names.{Shaped, IsPlaceOf, field_there, field_place, global_place, local_place}
 use Rattle.tac_lower.proofs.form.Fits.{constant_holds, null_holds, address_holds, field_holds, decay_holds, index_holds, get_holds, load_holds, new_holds, call_holds, in_holds, left_holds}
 use Rattle.tac_lower.proofs.form.ExprParts.{gathered_length, operation_items, Piece, YieldHolds, onward_holds, temp_holds, truth_as_holds, prefix_holds, carried_holds, both_holds, either_holds, AllHold, gathered_holds}
@@ -52,6 +53,7 @@ module _ (w : World) (b : Bool) (outs : Ends → ℕ → Type 0) (c : Context) (
   -- an expression at every line, with the type that it has
   pub record ExprHolds (e : Expr) : Type 0 where
     pub typing : IsTyping c.structs e.typing
+    pub parted : PartedTyping w.types e.typing
     pub yield : (line : ℕ) → YieldHolds w b outs e.typing ((expr sizes e).yield line)
 
   pub value_holds : (line : ℕ) (e : Expr) → ExprHolds e → Piece w b outs (value line (expr sizes e))
@@ -68,22 +70,32 @@ module _ (w : World) (b : Bool) (outs : Ends → ℕ → Type 0) (c : Context) (
   pub typed : (e : Expr) → IsTyping c.structs e.typing → IsTyping c.structs (expr sizes e).typing
   typed e is = subst (IsTyping c.structs) (sym (typing_is sizes e)) is
 
-  -- the type of a piece's draft is well-formed
-  object_of_expr : (e : Expr) (t : ObjectType) → object_of (expr sizes e).typing ≡ t → IsObject c.structs t → IsObject w.structs (object_of (expr sizes e).typing)
-  object_of_expr e t same is = subst (λ ss. IsObject ss (object_of (expr sizes e).typing)) names.structs (subst (IsObject c.structs) (sym same) is)
+  -- the type of a piece's draft is declared
+  declared : (t : ObjectType) → IsObject c.structs t → Parted w.types t → IsDeclared w t
+  declared t is parted = (subst (λ ss. IsObject ss t) names.structs is, parted)
+
+  declared_of : (e : Expr) (t : ObjectType) → object_of (expr sizes e).typing ≡ t → IsDeclared w t → IsDeclared w (object_of (expr sizes e).typing)
+  declared_of e t same is = subst (IsDeclared w) (sym same) is
+
+  -- what stands at a place, and behind a pointer
+  at_place : (e : Expr) (t : ObjectType) → e.typing ≡ ExprType.Place t → ExprHolds e → IsDeclared w t
+  at_place e t is holds = declared t (subst (IsTyping c.structs) is holds.typing) (subst (PartedTyping w.types) is holds.parted)
+
+  behind : (e : Expr) (t : ObjectType) → e.typing ≡ ExprType.Pointer t → ExprHolds e → IsDeclared w t
+  behind e t is holds = declared t (subst (IsTyping c.structs) is holds.typing) (subst (PartedTyping w.types) is holds.parted)
 
   -- a place is of the type that it is known to have
   place_as : (p : Place) (e : ExprType) (t u : ObjectType) → e ≡ ExprType.Place t → e ≡ ExprType.Place u → IsPlaceOf w p u → IsPlaceOf w p t
   place_as p e t u is that at = subst (IsPlaceOf w p) (place_is (sym that ∙ is)) at
 
-  part_holds : (line : ℕ) (e : Expr) (t : ObjectType) (k : ℕ) (s : ExprType) → IsObject c.structs t → e.typing ≡ ExprType.Place t → IsField c.structs t k s → (y : Yield) → YieldHolds w b outs e.typing y
+  part_holds : (line : ℕ) (e : Expr) (t : ObjectType) (k : ℕ) (s : ExprType) → IsDeclared w t → e.typing ≡ ExprType.Place t → IsField c.structs t k s → (y : Yield) → YieldHolds w b outs e.typing y
       → YieldHolds w b outs s (part_of line (object_of (expr sizes e).typing) k y)
   part_holds line e t k s object is f (direct p) at = (f.field, f.typing, field_place w c sizes names t k s f p (place_as p e.typing t at.0 is at.1 at.2))
   part_holds line e t k s object is f (left p) at =
       let struct = object_of (expr sizes e).typing in
       let same = object_is e t (ExprType.Place t) is refl in
       holds_then w b outs p (λ a. field line struct k a) at
-      (λ a. field_holds w b Outs line struct k a (object_of_expr e t same object) (λ known. subst (λ u. k < length (parts_of w.code (w.shape u))) (sym same)
+      (λ a. field_holds w b Outs line struct k a (declared_of e t same object) (λ known. subst (λ u. k < length (parts_of w.code (w.shape u))) (sym same)
       (field_there w c sizes names t k s f (subst (Known w) same known)))) (λ a. refl)
 
   pub read_holds : (line : ℕ) (s : ExprType) (t : ObjectType) (v : ExprType) → s ≡ ExprType.Place t → scalar_type t ≡ Some v → (y : Yield) → YieldHolds w b outs s y → Piece w b outs (read line y)
@@ -107,8 +119,8 @@ module _ (w : World) (b : Bool) (outs : Ends → ℕ → Type 0) (c : Context) (
       (λ y. carried_counts line p x y x 0))
       (λ x. ap (λ k. (value line (expr sizes f)).points + k) (carried_counts line p x 0 0 0))
 
-  item_object : (s : ExprType) (item : ObjectType) → IsTyping c.structs s → s ≡ ExprType.Pointer item → IsObject w.structs item
-  item_object s item t is = subst (λ ss. IsObject ss item) names.structs (subst (IsTyping c.structs) is t)
+  item_declared : (s : ExprType) (item : ObjectType) → IsTyping c.structs s → item.lengths ≡ [] → s ≡ ExprType.Pointer item → IsDeclared w item
+  item_declared s item t plain is = declared item (subst (IsTyping c.structs) is t) (no_arrays w.types item plain)
 
   -- An expression by its operands.
   abbrev AreHolds : List Expr → Type 0
@@ -139,12 +151,12 @@ module _ (w : World) (b : Bool) (outs : Ends → ℕ → Type 0) (c : Context) (
       let good : 1 ≤ words = subst (λ u. 1 ≤ words_of sizes u) (sym (object_is e l.0 (ExprType.Pointer l.0) l.1 refl)) (names.words l.0 object.base object.lengths) in
       holds_then w b outs (value line (expr sizes e)) (λ x. value line (expr sizes i) ▷ λ y. index line words x y) (value_holds line e all.0)
       (λ x. holds_then w b outs (value line (expr sizes i)) (λ y. index line words x y) (value_holds line i all.1.0) (λ y. index_holds w b Outs line words x y good) (λ y. refl)) (λ x. refl)
-  level_holds s (Form-F.Field e k) line t l all = part_holds line e l.0 k s (subst (IsTyping c.structs) l.1 all.0.typing) l.1 l.2 ((expr sizes e).yield line) (all.0.yield line)
+  level_holds s (Form-F.Field e k) line t l all = part_holds line e l.0 k s (at_place e l.0 l.1 all.0) l.1 l.2 ((expr sizes e).yield line) (all.0.yield line)
   level_holds s (Form-F.Arrow e k) line t l all =
       let struct = object_of (expr sizes e).typing in
       let same = object_is e l.0 (ExprType.Pointer l.0) l.1 refl in
       holds_then w b outs (value line (expr sizes e)) (λ a. field line struct k a) (value_holds line e all.0)
-      (λ a. field_holds w b Outs line struct k a (object_of_expr e l.0 same (subst (IsTyping c.structs) l.1 all.0.typing)) (λ known. subst (λ u. k < length (parts_of w.code (w.shape u))) (sym same)
+      (λ a. field_holds w b Outs line struct k a (declared_of e l.0 same (behind e l.0 l.1 all.0)) (λ known. subst (λ u. k < length (parts_of w.code (w.shape u))) (sym same)
       (field_there w c sizes names l.0 k s l.2 (subst (Known w) same known)))) (λ a. refl)
   level_holds s (Form-F.Number k) line t l all = constant_holds w b Outs line k
   level_holds s Form-F.Null line t l all = null_holds w b Outs line
@@ -153,7 +165,7 @@ module _ (w : World) (b : Bool) (outs : Ends → ℕ → Type 0) (c : Context) (
       let array = object_of (expr sizes e).typing in
       let same = object_is e l.0 (ExprType.Place l.0) l.3 refl in
       holds_then w b outs (pointer_to line ((expr sizes e).yield line)) (λ a. decay line array a) (pointer_holds line e.typing ((expr sizes e).yield line) (all.0.yield line))
-      (λ a. decay_holds w b Outs line array a (object_of_expr e l.0 same (subst (IsTyping c.structs) l.3 all.0.typing)) (λ known. subst (λ u. is_array w.code (w.shape u) ≡ true) (sym same)
+      (λ a. decay_holds w b Outs line array a (declared_of e l.0 same (at_place e l.0 l.3 all.0)) (λ known. subst (λ u. is_array w.code (w.shape u) ≡ true) (sym same)
       (names.arrays l.0 l.1 l.2 l.4 (subst (Known w) same known)))) (λ a. refl)
   level_holds s (Form-F.Address e) line t l all = pointer_holds line e.typing ((expr sizes e).yield line) (all.0.yield line)
   level_holds s (Form-F.Prefix op e) line t l all =
@@ -164,14 +176,44 @@ module _ (w : World) (b : Bool) (outs : Ends → ℕ → Type 0) (c : Context) (
   level_holds s Form-F.GetInt line t l all = in_holds w b Outs line
   level_holds s Form-F.Left line t l all = left_holds w b Outs line
   level_holds s (Form-F.New site item None) line t l all =
-      holds_then w b outs (constant line (pos 1)) (λ a. new line site item a) (constant_holds w b Outs line (pos 1)) (λ a. new_holds w b Outs line site item a (item_object s item t l.2)) (λ a. refl)
+      holds_then w b outs (constant line (pos 1)) (λ a. new line site item a) (constant_holds w b Outs line (pos 1)) (λ a. new_holds w b Outs line site item a (item_declared s item t l.1 l.2)) (λ a. refl)
   level_holds s (Form-F.New site item (Some e)) line t l all =
-      holds_then w b outs (value line (expr sizes e)) (λ a. new line site item a) (value_holds line e all.0) (λ a. new_holds w b Outs line site item a (item_object s item t l.2)) (λ a. refl)
+      holds_then w b outs (value line (expr sizes e)) (λ a. new line site item a) (value_holds line e all.0) (λ a. new_holds w b Outs line site item a (item_declared s item t l.1 l.2)) (λ a. refl)
+
+  -- Its type is a part of what is declared.
+  abbrev Fine : ExprType → Type 0
+  Fine s = PartedTyping w.types s
+
+  as_place : (s : ExprType) (t : ObjectType) → s ≡ ExprType.Place t → Parted w.types t → Fine s
+  as_place s t is parted = subst Fine (sym is) parted
+
+  field_fine : (t : ObjectType) (k : ℕ) (s : ExprType) → IsField c.structs t k s → Fine s
+  field_fine t k s is = as_place s is.field is.typing (names.field_types is.number is.whole k is.field is.there is.has)
+
+  level_fine : (s : ExprType) (x : Form-F Form Expr) → IsLayer c s x → AreHolds (operands_of x) → Fine s
+  level_fine s (Form-F.Global k) l all = as_place s l.0 l.2 (names.global_types k l.0 l.1)
+  level_fine s (Form-F.Local k) l all = as_place s l.0 l.2 (names.variable_types k l.0 l.1)
+  level_fine s (Form-F.Deref e) l all = as_place s l.0 l.2 (behind e l.0 l.1 all.0).1
+  level_fine s (Form-F.Index e i) l all = as_place s l.0 l.3 (behind e l.0 l.1 all.0).1
+  level_fine s (Form-F.Field e k) l all = field_fine l.0 k s l.2
+  level_fine s (Form-F.Arrow e k) l all = field_fine l.0 k s l.2
+  level_fine s (Form-F.Number k) l all = subst Fine (sym l) tt
+  level_fine s Form-F.Null l all = subst Fine (sym l) tt
+  level_fine s (Form-F.Read e) l all = scalar_parted w.types l.0 s l.3
+  level_fine s (Form-F.Decay e) l all = decay_parted w.types l.0 l.1 l.2 s l.4 l.5 (at_place e l.0 l.3 all.0).1
+  level_fine s (Form-F.Address e) l all = subst Fine (sym l.3) (no_arrays w.types l.0 l.2)
+  level_fine s (Form-F.Prefix op e) l all = subst Fine (sym l.1) tt
+  level_fine s (Form-F.Binary e op f) l all = binary_parted w.types op e.typing f.typing s l all.0.parted all.1.0.parted
+  level_fine s (Form-F.Call k es) l all = subst Fine (sym l.typing) (called_parted w.types l.callee.result)
+  level_fine s Form-F.GetInt l all = subst Fine (sym l) tt
+  level_fine s Form-F.Left l all = subst Fine (sym l) tt
+  level_fine s (Form-F.New site item count) l all = subst Fine (sym l.2) (no_arrays w.types item l.1)
 
   mutual
     pub expr_holds : {e : Expr} → IsExpr c e → ExprHolds e
     expr_holds (known e t l ops) = record {
       typing = t;
+      parted = level_fine e.typing (out-Form e.form) l (are_hold ops);
       yield = λ line. subst (λ y. YieldHolds w b outs e.typing (y line)) (sym (yield_of sizes e)) (level_holds e.typing (out-Form e.form) line t l (are_hold ops));
     }
 

@@ -1,7 +1,6 @@
 -- Pieces of one instruction hold where they stand.
 use Rattle.std.proofs.Common.{◌≡◌, ℕ, ℤ, ◌+◌, ◌<◌, ◌≤◌, ◌⊎◌, inl, inr, Bool, true, false, pos, List, [], length, refl, sym, subst, arith}
 use Rattle.c_typed.specs.declared.types.ObjectType.{ObjectType}
-use Rattle.c_typed.specs.IsWell.{IsObject}
 use Rattle.tac_ir.specs.declared.code.Instr.{Instr}
 use Rattle.tac_ir.specs.declared.code.BinOp.{BinOp}
 use Rattle.tac_ir.specs.declared.code.UnOp.{UnOp}
@@ -19,7 +18,7 @@ use Rattle.tac_lower.specs.Instrs.{draft, draft_of, no_number, a_temp, a_def, a_
 use Rattle.tac_lower.specs.Stmts.{leaving, returned, turn}
 use Rattle.tac_lower.proofs.form.Each.{Each, each_append, each_by}
 use Rattle.tac_lower.proofs.form.Zones.{Held, Apart, round, before, behind, Off, Top, Zone, zone_level}
-use Rattle.tac_lower.proofs.form.Holds.{Keeps, AllFit, World, regions, Known, KnownThere, IsObjectThere, Named, Aim, Fit, instr_of, own, Reaches, Holds}
+use Rattle.tac_lower.proofs.form.Holds.{Keeps, AllFit, World, regions, Known, KnownThere, IsDeclared, IsDeclaredThere, Named, Aim, Fit, instr_of, own, Reaches, Holds}
 
 -- neither a target, nor the end of a branch or a function
 abbrev pub is_plain : Instr → Bool
@@ -44,7 +43,7 @@ plain_regions at i h = refl
 
 module _ (w : World) (b : Bool) (outs : Ends → ℕ → ℕ → Type 0) where
   plain_one : (k : Taken) (make : Numbers → Draft) → ((n : Numbers) → is_plain (instr_of w (make n)) ≡ true)
-      → ((n : Numbers) → KnownThere w (make n).object → Named w (instr_of w (make n))) → ((n : Numbers) → IsObjectThere w (make n).object) → Holds w b outs (one k make)
+      → ((n : Numbers) → KnownThere w (make n).object → Named w (instr_of w (make n))) → ((n : Numbers) → IsDeclaredThere w (make n).object) → Holds w b outs (one k make)
   plain_one k make plain names objects = record {
     keeps = record {
       drafts = λ ends n. refl;
@@ -70,10 +69,10 @@ module _ (w : World) (b : Bool) (outs : Ends → ℕ → ℕ → Type 0) where
   pub address_holds : (line : ℕ) (p : Place) → IsPlace w.code w.fun p → Holds w b outs (address line p)
   address_holds line p is = plain_one a_temp (λ n. draft line (Instr.Addr n.temp p)) (λ n. refl) (λ n known. is) (λ n. tt)
 
-  pub field_holds : (line : ℕ) (t : ObjectType) (k a : ℕ) → IsObject w.structs t → (Known w t → k < length (parts_of w.code (w.shape t))) → Holds w b outs (field line t k a)
+  pub field_holds : (line : ℕ) (t : ObjectType) (k a : ℕ) → IsDeclared w t → (Known w t → k < length (parts_of w.code (w.shape t))) → Holds w b outs (field line t k a)
   field_holds line t k a object is = plain_one a_temp (λ n. draft_of line (Instr.Field n.temp a 0 k) t) (λ n. refl) (λ n known. is known) (λ n. object)
 
-  pub decay_holds : (line : ℕ) (t : ObjectType) (a : ℕ) → IsObject w.structs t → (Known w t → is_array w.code (w.shape t) ≡ true) → Holds w b outs (decay line t a)
+  pub decay_holds : (line : ℕ) (t : ObjectType) (a : ℕ) → IsDeclared w t → (Known w t → is_array w.code (w.shape t) ≡ true) → Holds w b outs (decay line t a)
   decay_holds line t a object is = plain_one a_temp (λ n. draft_of line (Instr.Decay n.temp a 0) t) (λ n. refl) (λ n known. is known) (λ n. object)
 
   pub index_holds : (line words x y : ℕ) → 1 ≤ words → Holds w b outs (index line words x y)
@@ -94,7 +93,7 @@ module _ (w : World) (b : Bool) (outs : Ends → ℕ → ℕ → Type 0) where
   pub same_holds : (line : ℕ) (ne : Bool) (x y : ℕ) → Holds w b outs (same line ne x y)
   same_holds line ne x y = plain_one a_temp (λ n. draft line (Instr.Same n.temp ne x y)) (λ n. refl) (λ n known. tt) (λ n. tt)
 
-  pub new_holds : (line site : ℕ) (t : ObjectType) (a : ℕ) → IsObject w.structs t → Holds w b outs (new line site t a)
+  pub new_holds : (line site : ℕ) (t : ObjectType) (a : ℕ) → IsDeclared w t → Holds w b outs (new line site t a)
   new_holds line site t a object = plain_one a_temp (λ n. draft_of line (Instr.New n.temp a site) t) (λ n. refl) (λ n known. tt) (λ n. object)
 
   pub call_holds : (line f : ℕ) (args : List ℕ) → IsGoodCall w.code f args → Holds w b outs (call line f args)

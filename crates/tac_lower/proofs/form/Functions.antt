@@ -26,7 +26,7 @@ use Rattle.tac_lower.proofs.form.Lists.{get_end, get_mapped}
 use Rattle.tac_lower.proofs.form.Each.{Each, each_append, each_by, each_contains, all_each}
 use Rattle.tac_lower.proofs.pieces.Sited.{new_site}
 use Rattle.tac_lower.proofs.form.Zones.{Held, Off, Top, top_behind, Level}
-use Rattle.tac_lower.proofs.form.Holds.{World, regions, KnownThere, IsObjectThere, Named, Aim, Forked, Fit, instr_of, AllFit, Sits, own, Anywhere, fit_append, sits_split, own_append, holds_next, holds_more}
+use Rattle.tac_lower.proofs.form.Holds.{World, regions, KnownThere, IsDeclaredThere, Named, Aim, Forked, Fit, instr_of, AllFit, Sits, own, Anywhere, fit_append, sits_split, own_append, holds_next, holds_more}
 use Rattle.tac_lower.proofs.form.Names.{Shaped, local_place}
 use Rattle.tac_lower.proofs.form.Fits.{constant_holds, null_holds, set_holds, IsMainBy, returned_fit, returned_keeps, returned_own}
 use Rattle.tac_lower.proofs.form.ExprParts.{Piece, AllHold}
@@ -234,12 +234,12 @@ module _ (w : World) (c : Context) (a : Around) (names : Shaped w c a.sizes) whe
   -- the types of its drafts are well-formed
   pub function_objects : (f : Function) (n : Numbers) → IsMainBy w a.in_main → ((i : ℕ) (v : Variable) → slice_get f.variables i ≡ Some v → slice_get c.variables (0 + i) ≡ Some v.object)
       → Each (λ t. is_scalar t ≡ true) (take f.parameters (objects_of f.variables)) → AreStmts c (placed (record { looped = false; branched = false }) f.body)
-      → Each (λ (d : Draft). IsObjectThere w d.object) ((function a f).make no_loop (first_of f n)).drafts
+      → Each (λ (d : Draft). IsDeclaredThere w d.object) ((function a f).make no_loop (first_of f n)).drafts
   function_objects f n main there scalars body =
       let fm = (front f).make no_loop (first_of f n) in
       let rm = (returned a.in_main f.close.0 fm.result).make no_loop fm.next in
-      subst (λ ds. Each (λ (d : Draft). IsObjectThere w d.object) ds) (sym (front_drafts f no_loop (first_of f n)))
-      (each_append (λ (d : Draft). IsObjectThere w d.object) fm.drafts rm.drafts ((front_holds f main there scalars body).keeps.objects no_loop (first_of f n)) ((returned_keeps w a.in_main f.close.0 fm.result).objects no_loop fm.next))
+      subst (λ ds. Each (λ (d : Draft). IsDeclaredThere w d.object) ds) (sym (front_drafts f no_loop (first_of f n)))
+      (each_append (λ (d : Draft). IsDeclaredThere w d.object) fm.drafts rm.drafts ((front_holds f main there scalars body).keeps.objects no_loop (first_of f n)) ((returned_keeps w a.in_main f.close.0 fm.result).objects no_loop fm.next))
 
   -- a function whose types stand among the shapes, in the code
   pub function_good : (f : Function) (n : Numbers) → IsMainBy w a.in_main → ((i : ℕ) (v : Variable) → slice_get f.variables i ≡ Some v → slice_get c.variables (0 + i) ≡ Some v.object)

@@ -156,9 +156,9 @@ module _ (t : Typed) (well : IsWell t) (bodies : Each (λ f. AreStmts (context_o
       }
 
   -- The whole.
-  pub good : length c.shapes < 2147483648 → first_passed c ≡ None → GoodForm c
-  good few within = record {
-    shapes = program.shapes_good t well bodies few;
+  pub good : first_passed c ≡ None → GoodForm c
+  good within = record {
+    shapes = program.shapes_good t well bodies;
     globals = globals_good;
     funs = funs_good;
     limits = limited t (code.each_steady t well bodies) within;
@@ -166,5 +166,8 @@ module _ (t : Typed) (well : IsWell t) (bodies : Each (λ f. AreStmts (context_o
     code = λ k fun there. fun_is k fun there (λ fun. IsGoodCode c k fun.code) (λ f found. program.code_good t well bodies k f found);
   }
 
-pub good_form : (t : Typed) → IsWell t → length (code_of t).shapes < 2147483648 → first_passed (code_of t) ≡ None → GoodForm (code_of t)
-good_form t well few within = good t well (code.bodies_of t well) few within
+pub good_form : (t : Typed) → IsWell t → first_passed (code_of t) ≡ None → GoodForm (code_of t)
+good_form t well within = good t well (code.bodies_of t well) within
+
+pub few_shapes : (t : Typed) → IsWell t → length (code_of t).shapes < 2147483648
+few_shapes t well = program.few t well (code.bodies_of t well)

@@ -17,11 +17,14 @@ use Rattle.tac_lower.specs.Parts.{Part, given, chained, from_here, within, ◌�
 use Rattle.tac_lower.specs.Shapes.{entry}
 use Rattle.tac_lower.specs.CodeOf.{shaped, finished}
 use Rattle.tac_lower.proofs.form.Each.{Each, each_append, each_by}
+use Rattle.tac_lower.proofs.form.Parted.{Parted}
 use Rattle.tac_lower.proofs.form.Zones.{Held, held_wide, Off, Top, top_before, top_behind, Level, Zone, zone_level, zone_left, zone_right}
 
 -- the whole code, and a function of it
 pub record World : Type 0 where
   pub structs : List Struct
+  -- what is declared
+  pub types : List ObjectType
   pub code : Code
   pub fun : ℕ
   pub lines : List Lined
@@ -78,9 +81,13 @@ Sits w at (d ∷ ds) = (slice_get w.lines at ≡ Some (finished w.shape d)) × K
 abbrev pub own : World → ℕ → List Draft → List Region
 own w at ds = regions_from at (map (finished w.shape) ds)
 
-abbrev pub IsObjectThere : World → Option ObjectType → Type 0
-IsObjectThere w None = Unit {0}
-IsObjectThere w (Some t) = IsObject w.structs t
+-- a type that is well-formed, with its arrays among those that are declared
+abbrev pub IsDeclared : World → ObjectType → Type 0
+IsDeclared w t = IsObject w.structs t × Parted w.types t
+
+abbrev pub IsDeclaredThere : World → Option ObjectType → Type 0
+IsDeclaredThere w None = Unit {0}
+IsDeclaredThere w (Some t) = IsDeclared w t
 
 -- targets that do not hang on where the piece stands
 abbrev pub Anywhere : (Ends → ℕ → Type 0) → Ends → ℕ → ℕ → Type 0
@@ -105,7 +112,7 @@ module _ (w : World) where
     pub drafts : (ends : Ends) (n : Numbers) → length (p.make ends n).drafts ≡ p.points
     pub at : (ends : Ends) (n : Numbers) → (p.make ends n).next.at ≡ n.at + p.points
     pub held : (ends : Ends) (n : Numbers) → Each (Held n.at (n.at + p.points)) (own w n.at (p.make ends n).drafts)
-    pub objects : (ends : Ends) (n : Numbers) → Each (λ (d : Draft). IsObjectThere w d.object) (p.make ends n).drafts
+    pub objects : (ends : Ends) (n : Numbers) → Each (λ (d : Draft). IsDeclaredThere w d.object) (p.make ends n).drafts
 
   -- a target outside a stretch: it lies behind, or is the head of a loop
   pub record Reaches (lo hi : ℕ) (rs : List Region) (t : ℕ) : Type 0 where
@@ -147,7 +154,7 @@ module _ (w : World) where
         (λ r h. held_wide a.next.at (a.next.at + (q a.result).points) low high r (omega arith) (omega arith) h) ((that ends n).held ends a.next)));
     objects = λ ends n.
         let a = p.make ends n in
-        each_append (λ (d : Draft). IsObjectThere w d.object) a.drafts ((q a.result).make ends a.next).drafts (is.objects ends n) ((that ends n).objects ends a.next);
+        each_append (λ (d : Draft). IsDeclaredThere w d.object) a.drafts ((q a.result).make ends a.next).drafts (is.objects ends n) ((that ends n).objects ends a.next);
   }
 
   -- a target of the first piece: in the second, or outside both

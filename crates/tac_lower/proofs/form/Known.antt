@@ -32,7 +32,7 @@ needed_known structs shapes (t ∷ ts) =
     (subst (λ all. (entry structs t all).shapes ≡ all) (sym rest.1) known, needed_known structs e.shapes ts)
 
 -- Structs among others.
-struct_later : (later earlier : List Struct) (k : ℕ) (shapes : List Shape) → k < length earlier → struct_entry (later ++ earlier) k shapes ≡ struct_entry earlier k shapes
+pub struct_later : (later earlier : List Struct) (k : ℕ) (shapes : List Shape) → k < length earlier → struct_entry (later ++ earlier) k shapes ≡ struct_entry earlier k shapes
 unfolding struct_entry
 struct_later [] earlier k shapes h = refl
 struct_later (x ∷ later) earlier k shapes h =
@@ -40,7 +40,7 @@ struct_later (x ∷ later) earlier k shapes h =
     ap (λ b. elim b as (λ b. Entry) [ true ↦ whole_entry (part_entries (struct_entry (later ++ earlier)) [] x.fields shapes) | false ↦ struct_entry (later ++ earlier) k shapes ]) other
     ∙ struct_later later earlier k shapes h
 
-struct_here : (d : Struct) (earlier : List Struct) (k : ℕ) (shapes : List Shape) → k ≡ length earlier → struct_entry (d ∷ earlier) k shapes ≡ whole_entry (part_entries (struct_entry earlier) [] d.fields shapes)
+pub struct_here : (d : Struct) (earlier : List Struct) (k : ℕ) (shapes : List Shape) → k ≡ length earlier → struct_entry (d ∷ earlier) k shapes ≡ whole_entry (part_entries (struct_entry earlier) [] d.fields shapes)
 unfolding struct_entry
 struct_here d earlier k shapes e =
     ap (λ b. elim b as (λ b. Entry) [ true ↦ whole_entry (part_entries (struct_entry earlier) [] d.fields shapes) | false ↦ struct_entry earlier k shapes ]) (eq-eqb k (length earlier) e)

@@ -14,6 +14,7 @@ use Rattle.tac_ir.specs.Layout.{parts_of, vars_of, shapes_of_globals}
 use Rattle.tac_ir.specs.Places.{end_of_path, end_from, shape_of_place, is_leaf, is_array}
 use Rattle.tac_ir.specs.GoodForm.{IsGoodCall}
 use Rattle.tac_lower.specs.Values.{deeper}
+use Rattle.tac_lower.proofs.form.Parted.{Parted}
 use Rattle.tac_lower.proofs.form.Holds.{World, Known}
 
 -- How the types of a context stand among the shapes of the code.
@@ -23,6 +24,9 @@ pub record Shaped (w : World) (c : Context) (sizes : List ℕ) : Type 0 where
   pub variables : (k : ℕ) (t : ObjectType) → slice_get c.variables k ≡ Some t → (slice_get (vars_of w.code w.fun) k ≡ Some (w.shape t)) × Known w t
   pub parts : (t : ObjectType) (j : ℕ) (d : Struct) → struct_of t ≡ Some j → slice_get c.structs j ≡ Some d → Known w t → parts_of w.code (w.shape t) ≡ map w.shape d.fields
   pub fields : (t : ObjectType) (j : ℕ) (d : Struct) (k : ℕ) (u : ObjectType) → struct_of t ≡ Some j → slice_get c.structs j ≡ Some d → slice_get d.fields k ≡ Some u → Known w t → Known w u
+  pub global_types : (k : ℕ) (t : ObjectType) → slice_get c.globals k ≡ Some t → Parted w.types t
+  pub variable_types : (k : ℕ) (t : ObjectType) → slice_get c.variables k ≡ Some t → Parted w.types t
+  pub field_types : (j : ℕ) (d : Struct) (k : ℕ) (u : ObjectType) → slice_get c.structs j ≡ Some d → slice_get d.fields k ≡ Some u → Parted w.types u
   pub arrays : (t : ObjectType) (n : ℕ) (ns : List ℕ) → t.lengths ≡ n ∷ ns → Known w t → is_array w.code (w.shape t) ≡ true
   pub scalars : (t : ObjectType) (s : ExprType) → scalar_type t ≡ Some s → is_leaf w.code (w.shape t) ≡ true
   pub words : (t : ObjectType) → IsBase c.structs t.base → All (λ n. 0 < n) t.lengths → 1 ≤ words_of sizes t

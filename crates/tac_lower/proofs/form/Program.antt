@@ -22,11 +22,14 @@ use Rattle.tac_lower.specs.CodeOf.{sites_in, needs_in, variables_in, types_neede
 use Rattle.tac_lower.proofs.form.Lists.{eq_is, eq_not, map_get}
 use Rattle.tac_lower.proofs.form.Each.{each_here, each_map, Each, each_append, each_by, each_get, each_all}
 use Rattle.tac_lower.proofs.pieces.NumberedSites.{site_of_draft}
-use Rattle.tac_lower.proofs.form.Holds.{World, KnownThere, IsObjectThere}
+use Rattle.tac_lower.proofs.form.Holds.{World, KnownThere, IsDeclaredThere}
 use Rattle.tac_lower.proofs.form.Fits.{IsMainBy}
 use Rattle.tac_lower.proofs.form.Functions.{function_good, function_objects}
 use Rattle.tac_lower.proofs.interned.DraftLaws.{objects}
 use Rattle.tac_lower.proofs.form.Worlds.{drafts_get, There, AllThere, sites_each, needs_each, parts_all, variables_each}
+use Rattle.tac_lower.proofs.form.Parted.{Parted}
+use Rattle.tac_lower.proofs.form.Declared.{declared_types, few_types, structs_listed, globals_parted, variables_parted}
+use Rattle.tac_lower.proofs.form.Potential.{few_shapes}
 use Rattle.tac_lower.proofs.form.Shapes.{Fair}
 use Rattle.tac_lower.proofs.form.Known.{IsBasic, int, pointer, unknown, basic}
 use Rattle.std.specs.List.{sum_by}
@@ -114,23 +117,30 @@ module _ (t : Typed) (well : IsWell t) (bodies : Each (λ f. AreStmts (context_o
       let less = slice_get_within sites s (record { line = d.line; object = is.object }) is.there in
       omega (arith, length-map sites (site_of shape))))
 
-  -- The types of all drafts are well-formed, and so are the shapes.
-  objects_there : (o : Option ObjectType) (w : World) → w.structs ≡ t.structs → IsObjectThere w o → There (IsObject t.structs) o
-  objects_there None w s is = tt
-  objects_there (Some o) w s is = subst (λ ss. IsObject ss o) s is
+  -- The types of all drafts are declared.
+  declared_there : (P : ObjectType → Type 0) → ((o : ObjectType) → IsObject t.structs o → Parted (declared_types t) o → P o) → (o : Option ObjectType) (w : World) → w.structs ≡ t.structs → w.types ≡ declared_types t
+      → IsDeclaredThere w o → There P o
+  declared_there P all None w s u is = tt
+  declared_there P all (Some o) w s u is = all o (subst (λ ss. IsObject ss o) s is.0) (subst (λ us. Parted us o) u is.1)
 
-  pub drafts_objects : Each (λ ds. AllThere (IsObject t.structs) ds) (drafts_of t)
-  drafts_objects = each_here (λ ds. AllThere (IsObject t.structs) ds) (drafts_of t) (λ k ds there. by k ds there (drafts_get (sizes_of t) t.main 0 (first_numbers t) t.functions k ds there))
+  drafts_each : (P : ObjectType → Type 0) → ((o : ObjectType) → IsObject t.structs o → Parted (declared_types t) o → P o) → Each (λ ds. AllThere P ds) (drafts_of t)
+  drafts_each P all = each_here (λ ds. AllThere P ds) (drafts_of t) (λ k ds there. by k ds there (drafts_get (sizes_of t) t.main 0 (first_numbers t) t.functions k ds there))
     where
-      by : (k : ℕ) (ds : List Draft) → slice_get (drafts_of t) k ≡ Some ds → (f : Function) × (slice_get t.functions k ≡ Some f) → AllThere (IsObject t.structs) ds
+      by : (k : ℕ) (ds : List Draft) → slice_get (drafts_of t) k ≡ Some ds → (f : Function) × (slice_get t.functions k ≡ Some f) → AllThere P ds
       by k ds there (f, found) =
           let a = code.at t well bodies k f found in
           let w = world k f found in
           let mine = made k f found in
           let same : mine ≡ ds = (let e : Some mine ≡ Some ds = sym a.drafts ∙ there in cc) in
-          subst (λ ds. AllThere (IsObject t.structs) ds) same
-          (each_by (λ (d : Draft). IsObjectThere w d.object) (λ (d : Draft). There (IsObject t.structs) d.object) mine (λ d is. objects_there d.object w refl is)
+          subst (λ ds. AllThere P ds) same
+          (each_by (λ (d : Draft). IsDeclaredThere w d.object) (λ (d : Draft). There P d.object) mine (λ d is. declared_there P all d.object w refl refl is)
           (function_objects w (context_of t f) (around (sizes_of t) t.main a.index) (code.shaped t well bodies k f (map (finished shape) mine) found) f a.numbers (main_of k f found) (variable_there f) (scalars_of k f found) (body_of k f found)))
+
+  pub drafts_objects : Each (λ ds. AllThere (IsObject t.structs) ds) (drafts_of t)
+  drafts_objects = drafts_each (IsObject t.structs) (λ o is parted. is)
+
+  drafts_parted : Each (λ ds. AllThere (Parted (declared_types t)) ds) (drafts_of t)
+  drafts_parted = drafts_each (Parted (declared_types t)) (λ o is parted. parted)
 
   pub globals_objects : Each (IsObject t.structs) (code.globals t well bodies)
   globals_objects = each_map (IsObject t.structs) (λ (g : Global). g.object) t.globals (each_by (IsGlobal t.structs) (λ g. IsObject t.structs g.object) t.globals (λ g is. is.object) (each_all (IsGlobal t.structs) t.globals well.globals))
@@ -141,15 +151,28 @@ module _ (t : Typed) (well : IsWell t) (bodies : Each (λ f. AreStmts (context_o
       (each_by (IsFunction t) (λ (f : Function). Each (IsObject t.structs) (objects_of f.variables)) t.functions (λ f is. each_all (IsObject t.structs) (objects_of f.variables) is.objects)
       (each_all (IsFunction t) t.functions well.functions))
 
-  needed_objects : Each (IsObject t.structs) (types_needed t (all_of (drafts_of t)))
-  needed_objects =
-      let P = IsObject t.structs in
+  -- what holds of globals, variables and drafts holds of all that is needed
+  needed_each : (P : ObjectType → Type 0) → Each P (code.globals t well bodies) → Each P (variables_in t.functions) → Each (λ ds. AllThere P ds) (drafts_of t) → Each P (types_needed t (all_of (drafts_of t)))
+  needed_each P of_globals of_variables of_drafts =
       let ds = all_of (drafts_of t) in
-      let all = parts_all (λ (d : Draft). There P d.object) (drafts_of t) drafts_objects in
+      let all = parts_all (λ (d : Draft). There P d.object) (drafts_of t) of_drafts in
       let globals = code.globals t well bodies in
       let sites = objects (sites_in ds) in
       each_append P (globals ++ variables_in t.functions ++ sites) (objects (needs_in ds))
-      (each_append P (globals ++ variables_in t.functions) sites (each_append P globals (variables_in t.functions) globals_objects variables_objects) (sites_each P ds all)) (needs_each P ds all)
+      (each_append P (globals ++ variables_in t.functions) sites (each_append P globals (variables_in t.functions) of_globals of_variables) (sites_each P ds all)) (needs_each P ds all)
+
+  needed_objects : Each (IsObject t.structs) (types_needed t (all_of (drafts_of t)))
+  needed_objects = needed_each (IsObject t.structs) globals_objects variables_objects drafts_objects
+
+  needed_parted : Each (Parted (declared_types t)) (types_needed t (all_of (drafts_of t)))
+  needed_parted = needed_each (Parted (declared_types t)) (globals_parted t) (variables_parted t) drafts_parted
+
+  -- Each shape but the first two is that of a struct or an array that is declared.
+  pub few : length c.shapes < 2147483648
+  few =
+      let all = few_shapes t.structs (declared_types t) (structs_listed t) well.structs (types_needed t (all_of (drafts_of t))) needed_objects needed_parted in
+      let types = few_types t well in
+      omega (arith, all, types)
 
   pub fair : Fair c.shapes
   fair = fair_shapes t.structs well.structs (types_needed t (all_of (drafts_of t))) needed_objects
@@ -169,8 +192,8 @@ module _ (t : Typed) (well : IsWell t) (bodies : Each (λ f. AreStmts (context_o
       let here = words_are (object x) is.0 stands.0 in
       omega (arith, sum_by-cons (shape_words c) (shape (object x)) (map (λ x. shape (object x)) xs))
 
-  pub shapes_good : length c.shapes < 2147483648 → GoodShapes c
-  shapes_good few = record {
+  pub shapes_good : GoodShapes c
+  shapes_good = record {
     each = λ s x there.
         (let is = fair.each s x there in record { earlier = all_each (λ named. named < s) (shapes_named x) is.earlier; some = is.some; words = is.words });
     first = fair.first;

@@ -49,24 +49,30 @@ shaped_some shape (Instr.Decay to a s) t = refl
 shaped_some shape i t = refl
 
 -- More drafts.
-variables_in-push : (fs : List Function) (f : Function) → variables_in (fs ++ f ∷ []) ≡ variables_in fs ++ map (λ v. v.object) f.variables
-variables_in-push [] f = append-nil (map (λ v. v.object) f.variables)
-variables_in-push (g ∷ fs) f =
-    ap (λ ts. map (λ v. v.object) g.variables ++ ts) (variables_in-push fs f) ∙ sym (append_assoc (map (λ v. v.object) g.variables) (variables_in fs) (map (λ v. v.object) f.variables))
+pub variables_in-append : (fs gs : List Function) → variables_in (fs ++ gs) ≡ variables_in fs ++ variables_in gs
+variables_in-append [] gs = refl
+variables_in-append (f ∷ fs) gs =
+    ap (λ ts. map (λ v. v.object) f.variables ++ ts) (variables_in-append fs gs) ∙ sym (append_assoc (map (λ v. v.object) f.variables) (variables_in fs) (variables_in gs))
 
-sites_in-append : (ds es : List Draft) → sites_in (ds ++ es) ≡ sites_in ds ++ sites_in es
+variables_in-push : (fs : List Function) (f : Function) → variables_in (fs ++ f ∷ []) ≡ variables_in fs ++ map (λ v. v.object) f.variables
+variables_in-push fs f = variables_in-append fs (f ∷ []) ∙ ap (λ ts. variables_in fs ++ ts) (append-nil (map (λ v. v.object) f.variables))
+
+pub sites_in-append : (ds es : List Draft) → sites_in (ds ++ es) ≡ sites_in ds ++ sites_in es
 sites_in-append [] es = refl
 sites_in-append (d ∷ ds) es =
     ap (λ s. site_by d.line d.object d.instr ++ s) (sites_in-append ds es) ∙ sym (append_assoc (site_by d.line d.object d.instr) (sites_in ds) (sites_in es))
 
-needs_in-append : (ds es : List Draft) → needs_in (ds ++ es) ≡ needs_in ds ++ needs_in es
+pub needs_in-append : (ds es : List Draft) → needs_in (ds ++ es) ≡ needs_in ds ++ needs_in es
 needs_in-append [] es = refl
 needs_in-append (d ∷ ds) es =
     ap (λ s. need_by d.line d.object d.instr ++ s) (needs_in-append ds es) ∙ sym (append_assoc (need_by d.line d.object d.instr) (needs_in ds) (needs_in es))
 
+pub all_of-append : (dss ess : List (List Draft)) → all_of (dss ++ ess) ≡ all_of dss ++ all_of ess
+all_of-append [] ess = refl
+all_of-append (ds ∷ dss) ess = ap (λ xs. ds ++ xs) (all_of-append dss ess) ∙ sym (append_assoc ds (all_of dss) (all_of ess))
+
 all_of-push : (dss : List (List Draft)) (ds : List Draft) → all_of (dss ++ ds ∷ []) ≡ all_of dss ++ ds
-all_of-push [] ds = append-nil ds
-all_of-push (es ∷ dss) ds = ap (λ xs. es ++ xs) (all_of-push dss ds) ∙ sym (append_assoc es (all_of dss) ds)
+all_of-push dss ds = all_of-append dss (ds ∷ []) ∙ ap (λ xs. all_of dss ++ xs) (append-nil ds)
 
 sites_in-push : (ds : List Draft) (d : Draft) → sites_in (ds ++ d ∷ []) ≡ sites_in ds ++ site_by d.line d.object d.instr
 sites_in-push ds d = sites_in-append ds (d ∷ []) ∙ ap (λ s. sites_in ds ++ s) (append-nil (site_by d.line d.object d.instr))

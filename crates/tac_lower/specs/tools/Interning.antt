@@ -1,5 +1,5 @@
 -- What interning leaves. (A tool of proof: no public clause names it.)
-use Rattle.std.specs.Prelude.{◌≡◌, ℕ, suc, Bool, true, false, List, [], ◌∷◌, ◌++◌, Option, Some, slice_get, reverse, take, length}
+use Rattle.std.specs.Prelude.{◌≡◌, ℕ, ◌≤◌, suc, Bool, true, false, List, [], ◌∷◌, ◌++◌, Option, Some, slice_get, reverse, take, length}
 use Rattle.c_typed.specs.declared.types.ObjectType.{ObjectType}
 use Rattle.c_typed.specs.declared.program.Struct.{Struct}
 use Rattle.c_typed.specs.declared.program.Function.{Function}
@@ -9,6 +9,10 @@ use Rattle.tac_ir.specs.declared.code.Lined.{Lined}
 use Rattle.tac_ir.specs.declared.code.Fun.{Fun}
 use Rattle.tac_lower.specs.declared.types.Interner.{Interner}
 use Rattle.tac_lower.specs.Shapes.{Entry, Structs, struct_entry, shapes_from, shape_number}
+
+-- a number of 32 bits for each
+abbrev pub AreFew : List Shape → Type 0
+AreFew shapes = length shapes ≤ 4294967296
 
 -- so many structs, as those that come after them see them
 abbrev pub first_structs : List Struct → ℕ → Structs

@@ -1,14 +1,20 @@
-use Rattle.std.proofs.Common.{◌≡◌, ◌∙◌, ◌<◌, Err, None, ap, arith, length, rules, subst, sym}
+use Rattle.std.proofs.Common.{◌≡◌, ◌∙◌, Err, None, ap, arith, rules, subst, sym}
 use Rattle.std.proofs.lemmas.Result.{err_from_is_err_and}
 use Rattle.tac_lower.specs.declared.fault.LowerFault.{LowerFault}
-use Rattle.tac_ir.specs.declared.code.Code.{Code}
 use Rattle.tac_ir.specs.GoodForm.{GoodForm}
-use Rattle.tac_lower.specs.CodeOf.{code_of}
+use Rattle.tac_lower.specs.CodeOf.{code_of, code_with}
 use Rattle.tac_lower.specs.Limits.{first_passed}
+use Rattle.tac_lower.specs.tools.Interning.{AreFew}
 use Rattle.tac_lower.specs.Lowers.{Lowers}
-use Rattle.tac_lower.proofs.form.Good.{good_form}
+use Rattle.tac_lower.proofs.form.Good.{few_shapes, good_form}
 use Rattle.tac_lower.proofs.counted.LowerLaws.{emitted_fault, no_memory, points_within}
 use Rattle.tac_lower.proofs.lowering.lower.Goals as goal
+
+pub finish-requires : goal.finish-requires
+finish-requires c =
+    let t = c.args.program.now in
+    let few = few_shapes t c.known.ensures in
+    subst (λ drafts. AreFew (code_with t drafts).shapes) (sym c.in_ok-drafts.ensures.drafts) (omega (arith, few))
 
 pub passed-requires : goal.passed-requires
 passed-requires c = (points_within c.args.program.now c.in_ok-drafts.drafts c.in_ok-code.code c.in_ok-drafts.ensures c.in_ok-code.ensures).1
@@ -40,6 +46,4 @@ returns-in-None c =
     let t = c.args.program.now in
     let same = (points_within t c.in_ok-drafts.drafts c.in_ok-code.code c.in_ok-drafts.ensures c.in_ok-code.ensures).0 in
     let within : first_passed (code_of t) ≡ None = ap first_passed (sym same) ∙ sym c.in_ok-passed.ensures ∙ c.in-None.is in
-    let less : length c.in_ok-code.code.shapes < 2147483648 = omega (arith, c.len.ensures, c.if-len-ge-MOST_SHAPES.false) in
-    let few : length (code_of t).shapes < 2147483648 = subst (λ (x : Code). length x.shapes < 2147483648) same less in
-    record { code = same; within = within; good = subst GoodForm (sym same) (good_form t c.known.ensures few within) }
+    record { code = same; within = within; good = subst GoodForm (sym same) (good_form t c.known.ensures within) }

@@ -1,8 +1,10 @@
 use Rattle.std.proofs.Common.{◌+◌, map, sym, subst, take, arith}
 use Rattle.std.proofs.lemmas.List.{take_all}
 use Rattle.tac_lower.specs.CodeOf.{variables_in}
-use Rattle.tac_lower.specs.tools.Interning.{Interned}
+use Rattle.tac_lower.specs.Shapes.{shapes_from}
+use Rattle.tac_lower.specs.tools.Interning.{AreFew, Interned}
 use Rattle.tac_lower.proofs.interned.DraftLaws.{frames_more}
+use Rattle.tac_lower.proofs.interned.FewShapes.{few_frame}
 use Rattle.tac_lower.proofs.types.Interner.frames.Goals as goal
 
 pub loop-function-preserved : goal.loop-function-preserved
@@ -20,3 +22,9 @@ pub returns : goal.returns
 returns c =
     subst (λ xs. Interned c.args.structs.now (variables_in xs) (λ shape. map (λ f. map (λ v. shape v.object) f.variables) xs) c.args.self.now c.loop-function.self c.loop-function.made)
     (take_all c.loop-function.function-index c.args.functions.now (omega arith)) c.loop-function.invariant
+
+pub variables-requires-clause-few : goal.variables-requires-clause-few
+variables-requires-clause-few c =
+    let few = few_frame c.args.structs.now c.args.self.now.shapes c.loop-function.self.shapes c.args.functions.now c.loop-function.function-index c.function-item.result
+    c.loop-function-test.true c.function-item.is c.loop-function.invariant.shapes c.requires.few in
+    subst (λ vs. AreFew (shapes_from c.args.structs.now c.loop-function.self.shapes (map (λ v. v.object) vs))) (sym c.as_slice.ensures) few

@@ -3,6 +3,7 @@ use Rattle.std.proofs.lemmas.List.{take_all}
 use Rattle.tac_lower.specs.CodeOf.{global_of}
 use Rattle.tac_lower.specs.tools.Interning.{Interned}
 use Rattle.tac_lower.proofs.interned.InternedLists.{each_more}
+use Rattle.tac_lower.proofs.interned.FewShapes.{few_each}
 use Rattle.tac_lower.proofs.types.Interner.globals.Goals as goal
 
 pub loop-global-preserved : goal.loop-global-preserved
@@ -21,3 +22,8 @@ returns c =
     let globals = c.args.globals.now in
     subst (λ xs. Interned c.args.structs.now (map (λ g. g.object) xs) (λ shape. map (global_of shape) xs) c.args.self.now c.loop-global.self c.loop-global.made)
     (take_all c.loop-global.global-index globals (omega arith)) c.loop-global.invariant
+
+pub number-requires-clause-few : goal.number-requires-clause-few
+number-requires-clause-few c =
+    few_each c.args.structs.now c.args.self.now.shapes c.loop-global.self.shapes (λ g. g.object) c.args.globals.now c.loop-global.global-index c.global-item.result
+    c.loop-global-test.true c.global-item.is c.loop-global.invariant.shapes c.requires.few

@@ -2,6 +2,7 @@ use Rattle.std.proofs.Common.{◌+◌, map, sym, subst, take, arith}
 use Rattle.std.proofs.lemmas.List.{take_all}
 use Rattle.tac_lower.specs.tools.Interning.{Interned}
 use Rattle.tac_lower.proofs.interned.InternedLists.{each_more}
+use Rattle.tac_lower.proofs.interned.FewShapes.{few_each}
 use Rattle.tac_lower.proofs.types.Interner.variables.Goals as goal
 
 pub loop-variable-preserved : goal.loop-variable-preserved
@@ -18,3 +19,8 @@ returns c =
     let variables = c.args.variables.now in
     subst (λ xs. Interned c.args.structs.now (map (λ v. v.object) xs) (λ shape. map (λ v. shape v.object) xs) c.args.self.now c.loop-variable.self c.loop-variable.made)
     (take_all c.loop-variable.variable-index variables (omega arith)) c.loop-variable.invariant
+
+pub number-requires-clause-few : goal.number-requires-clause-few
+number-requires-clause-few c =
+    few_each c.args.structs.now c.args.self.now.shapes c.loop-variable.self.shapes (λ v. v.object) c.args.variables.now c.loop-variable.variable-index c.variable-item.result
+    c.loop-variable-test.true c.variable-item.is c.loop-variable.invariant.shapes c.requires.few
