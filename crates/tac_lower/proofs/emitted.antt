@@ -5,6 +5,8 @@ pub mod StmtForms
 pub mod Turns
 pub mod Loops
 pub mod Forking
-pub mod Products
 pub mod Drafting
 pub mod Parameters
+pub mod Weights
+pub mod StmtWeights
+pub mod WellParts

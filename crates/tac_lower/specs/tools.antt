@@ -5,3 +5,4 @@ pub mod Interning
 pub mod Counting
 pub mod Drafted
 pub mod Nested
+pub mod Well

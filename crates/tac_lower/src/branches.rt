@@ -4,6 +4,7 @@ ghost use Rattle.std.specs.Prelude.{map};
 ghost use Rattle.tac_lower.specs.tools.Emits.{Emits, Counts};
 ghost use Rattle.tac_lower.specs.tools.Nested.{Forks, branch, closed};
 ghost use Rattle.tac_lower.specs.Parts.{in_turn};
+ghost use Rattle.tac_lower.specs.tools.Well.{WellStmts, WellBranches};
 ghost use Rattle.tac_lower.specs.Stmts as spec;
 
 use crate::draft::Ends;
@@ -24,6 +25,7 @@ impl Writer {
         line: u32,
         branches: &[Branch<Stmt>],
     ) -> Result<u32, Stop>
+        requires { WellBranches structs.now branches.now }
         ensures { Emits (spec.branches line (map (branch (spec.around_by structs.now in_main)) branches.now)) ends self.old self.new result }
     {
         let fork = self.fork(structs, in_main, branches)?;
@@ -39,6 +41,7 @@ impl Writer {
         in_main: bool,
         branches: &[Branch<Stmt>],
     ) -> Result<Instr, Stop>
+        requires { WellBranches structs.now branches.now }
         ensures { Forks (map (branch (spec.around_by structs.now in_main)) branches.now) self.now result }
     {
         let mut entries = Items::new(structs.alloc());
@@ -66,6 +69,7 @@ impl Writer {
         body: &Items<Stmt>,
         close: u32,
     ) -> Result<u32, Stop>
+        requires { WellStmts structs.now body.now }
         ensures { Counts (closed (spec.around_by structs.now in_main) body.now close) self.now result }
     {
         let mut run = self.dry_run(structs.alloc());
@@ -83,6 +87,7 @@ impl Writer {
         body: &Items<Stmt>,
         close: u32,
     ) -> Result<u32, Stop>
+        requires { WellStmts structs.now body.now }
         ensures { Emits (closed (spec.around_by structs.now in_main) body.now close) ends self.old self.new result }
     {
         self.stmts(structs, in_main, ends, body.as_slice())?;
@@ -97,6 +102,7 @@ impl Writer {
         ends: Ends,
         branches: &[Branch<Stmt>],
     ) -> Result<u32, Stop>
+        requires { WellBranches structs.now branches.now }
         ensures { Emits (in_turn (map (branch (spec.around_by structs.now in_main)) branches.now)) ends self.old self.new result }
     {
         for b in branches {

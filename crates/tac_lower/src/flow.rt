@@ -4,6 +4,7 @@ ghost use Rattle.std.specs.Prelude.{◌≤◌, Bool};
 ghost use Rattle.tac_lower.specs.declared.draft.Ends.{Ends as EndsModel};
 ghost use Rattle.tac_lower.specs.tools.Emits.{Emits};
 ghost use Rattle.tac_lower.specs.tools.Nested.{guarded, skipped};
+ghost use Rattle.tac_lower.specs.tools.Well.{WellExpr, WellConditionThere, WellStmt};
 ghost use Rattle.tac_lower.specs.Stmts as spec;
 
 use crate::draft::Ends;
@@ -24,7 +25,9 @@ impl Writer {
         first: &Boxed<Stmt>,
         more: u32,
     ) -> Result<u32, Stop>
-        requires { more ≤ 1 }
+        requires more { more ≤ 1 }
+        requires condition { WellExpr structs.now condition.now.value }
+        requires first { WellStmt structs.now first.now }
         ensures { Emits (guarded (spec.around_by structs.now in_main) condition.now first.now more) ends self.old self.new result }
     {
         let past = self.points(structs, in_main, first)?;
@@ -42,6 +45,7 @@ impl Writer {
         line: u32,
         second: &Boxed<Stmt>,
     ) -> Result<u32, Stop>
+        requires { WellStmt structs.now second.now }
         ensures { Emits (skipped (spec.around_by structs.now in_main) line second.now) ends self.old self.new result }
     {
         let past = self.points(structs, in_main, second)?;
@@ -58,6 +62,8 @@ impl Writer {
         condition: &Condition,
         body: &Boxed<Stmt>,
     ) -> Result<u32, Stop>
+        requires condition { WellExpr structs.now condition.now.value }
+        requires body { WellStmt structs.now body.now }
         ensures { (ends : EndsModel) → Emits (spec.while line (spec.condition (spec.around_by structs.now in_main) condition.now) (spec.stmt (spec.around_by structs.now in_main) body.now)) ends self.old self.new result }
     {
         let head = self.next.at;
@@ -79,7 +85,8 @@ impl Writer {
         condition: &Option<Condition>,
         past: u32,
     ) -> Result<u32, Stop>
-        requires { past ≤ 65535 }
+        requires past { past ≤ 65535 }
+        requires well { WellConditionThere structs.now condition.now }
         ensures { (in_main : Bool) (ends : EndsModel) → Emits (spec.guard (spec.around_by structs.now in_main) condition.now past) ends self.old self.new result }
     {
         match condition {

@@ -6,6 +6,7 @@ ghost use Rattle.tac_lower.specs.declared.draft.Ends.{Ends};
 ghost use Rattle.tac_lower.specs.CodeOf.{first_numbers};
 ghost use Rattle.tac_lower.specs.tools.Drafted.{IsBegun, Writes, Drafts, fault_of, is_pointer};
 ghost use Rattle.tac_lower.specs.tools.Emits.{Emits};
+ghost use Rattle.tac_lower.specs.tools.Well.{WellStmts};
 ghost use Rattle.tac_lower.specs.Functions as spec;
 ghost use Rattle.tac_lower.specs.Parts.{in_turn};
 ghost use Rattle.tac_lower.specs.Stmts.{around_by};
@@ -53,6 +54,7 @@ impl Writer {
     }
 
     fn function(&mut self, structs: &Structs, in_main: bool, f: &Function) -> Result<u32, Stop>
+        requires { WellStmts structs.now f.now.body }
         ensures { Emits (spec.function (around_by structs.now in_main) f.now) spec.no_loop self.old self.new result }
     {
         self.parameters(structs.alloc(), parameters_of(f))?;
@@ -106,7 +108,8 @@ impl Progress {
         in_main: bool,
         f: &Function,
     ) -> Result<Items<Draft>, Stop>
-        requires { f.now.parameters ≤ 2147483648 }
+        requires parameters { f.now.parameters ≤ 2147483648 }
+        requires body { WellStmts structs.now f.now.body }
         ensures { Writes (spec.function (around_by structs.now in_main) f.now) f.now self.old self.new result }
     {
         let next = Numbers {

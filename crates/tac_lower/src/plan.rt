@@ -1,14 +1,13 @@
 //! What an operator does.
 
-ghost use Rattle.std.specs.Prelude.{◌≡◌, IfOk, MatchResult};
+ghost use Rattle.std.specs.Prelude.{◌≡◌, ◌<◌, IfOk, All};
 ghost use Rattle.c_typed.specs.Types.{words_of, times, item_words, base_words};
-ghost use Rattle.tac_lower.specs.declared.writer.Stop.{Stop};
 ghost use Rattle.c_typed.specs.IsWell.{sizes_in};
 ghost use Rattle.c_typed.specs.Elaboration as spec;
-ghost use Rattle.tac_lower.specs.tools.Plans.{operation_of, skips_of, truth_by_int, IsProduct};
+ghost use Rattle.tac_lower.specs.tools.Plans.{operation_of, skips_of, truth_by_int};
+ghost use Rattle.tac_lower.specs.tools.Well.{IsSmall, IsSmallTyping};
 
 use crate::structs::Structs;
-use crate::writer::Stop;
 use c_ast::BinaryOp;
 use c_typed::{BaseType, ExprType, ObjectType};
 use sqlite_items::Items;
@@ -80,14 +79,15 @@ pub(crate) fn copy_of(alloc: Global, object: &ObjectType) -> Result<ObjectType, 
     })
 }
 
-/// The items of an array of arrays of these lengths, in words; none where the number is too big for a `u32`, which the words of
-/// a typed program never are.
-fn times(lengths: &[u32], words: u32) -> Option<u32>
-    ensures { IsProduct lengths.now words result }
+/// The items of an array of arrays of these lengths, in words.
+fn times(lengths: &[u32], words: u32) -> u32
+    requires some { All (λ n. 0 < n) lengths.now }
+    requires small { times lengths.now words < 4294967296 }
+    ensures { result ≡ times lengths.now words }
 {
     match lengths {
-        [] => Some(words),
-        [length, rest @ ..] => length.checked_mul(times(rest, words)?),
+        [] => words,
+        [length, rest @ ..] => length * times(rest, words),
     }
 }
 
@@ -112,51 +112,53 @@ fn item_words(structs: &Structs, base: BaseType, stars: u64) -> u32
 }
 
 /// The words of a type.
-fn words_of(structs: &Structs, object: &ObjectType) -> Result<u32, Stop>
-    ensures { MatchResult result (λ n. n ≡ words_of (sizes_in structs.now) object.now) (λ e. e ≡ Stop.Memory) }
+fn words_of(structs: &Structs, object: &ObjectType) -> u32
+    requires { IsSmall (sizes_in structs.now) object.now }
+    ensures { result ≡ words_of (sizes_in structs.now) object.now }
 {
     let item = item_words(structs, object.base, object.stars);
-    match times(object.lengths.as_slice(), item) {
-        None => Err(Stop::Memory),
-        Some(words) => Ok(words),
-    }
+    times(object.lengths.as_slice(), item)
 }
 
 /// The words of what stands at a place or behind a pointer.
-pub(crate) fn words_behind(structs: &Structs, typing: &ExprType) -> Result<u32, Stop>
-    ensures { MatchResult result (λ n. n ≡ words_of (sizes_in structs.now) (spec.object_of typing.now)) (λ e. e ≡ Stop.Memory) }
+pub(crate) fn words_behind(structs: &Structs, typing: &ExprType) -> u32
+    requires { IsSmallTyping (sizes_in structs.now) typing.now }
+    ensures { result ≡ words_of (sizes_in structs.now) (spec.object_of typing.now) }
 {
     match typing {
         ExprType::Place(object) => words_of(structs, object),
         ExprType::Pointer(object) => words_of(structs, object),
-        _ => Ok(1),
+        _ => 1,
     }
 }
 
 /// `+`
-pub(crate) fn sum(structs: &Structs, first: &ExprType, second: &ExprType) -> Result<Plan, Stop>
-    ensures { MatchResult result (λ p. operation_of p ≡ spec.sum (sizes_in structs.now) first.now second.now) (λ e. e ≡ Stop.Memory) }
+pub(crate) fn sum(structs: &Structs, first: &ExprType, second: &ExprType) -> Plan
+    requires first { IsSmallTyping (sizes_in structs.now) first.now }
+    requires second { IsSmallTyping (sizes_in structs.now) second.now }
+    ensures { operation_of result ≡ spec.sum (sizes_in structs.now) first.now second.now }
 {
     match (first, second) {
-        (ExprType::Pointer(object), _) => Ok(Plan::MoveUp {
-            words: words_of(structs, object)?,
-        }),
-        (_, ExprType::Pointer(object)) => Ok(Plan::MoveRightUp {
-            words: words_of(structs, object)?,
-        }),
-        _ => Ok(Plan::Words(BinaryOp::Add)),
+        (ExprType::Pointer(object), _) => Plan::MoveUp {
+            words: words_of(structs, object),
+        },
+        (_, ExprType::Pointer(object)) => Plan::MoveRightUp {
+            words: words_of(structs, object),
+        },
+        _ => Plan::Words(BinaryOp::Add),
     }
 }
 
 /// `-`
-pub(crate) fn difference(structs: &Structs, first: &ExprType) -> Result<Plan, Stop>
-    ensures { MatchResult result (λ p. operation_of p ≡ spec.difference (sizes_in structs.now) first.now) (λ e. e ≡ Stop.Memory) }
+pub(crate) fn difference(structs: &Structs, first: &ExprType) -> Plan
+    requires { IsSmallTyping (sizes_in structs.now) first.now }
+    ensures { operation_of result ≡ spec.difference (sizes_in structs.now) first.now }
 {
     match first {
-        ExprType::Pointer(object) => Ok(Plan::MoveDown {
-            words: words_of(structs, object)?,
-        }),
-        _ => Ok(Plan::Words(BinaryOp::Sub)),
+        ExprType::Pointer(object) => Plan::MoveDown {
+            words: words_of(structs, object),
+        },
+        _ => Plan::Words(BinaryOp::Sub),
     }
 }
 
@@ -171,19 +173,16 @@ fn equality(op: BinaryOp, pointers: Plan, first: &ExprType) -> Plan
 }
 
 /// What an operator does with two values of these types.
-pub(crate) fn plan_of(
-    structs: &Structs,
-    op: BinaryOp,
-    first: &ExprType,
-    second: &ExprType,
-) -> Result<Plan, Stop>
-    ensures { MatchResult result (λ p. operation_of p ≡ spec.operation (sizes_in structs.now) op first.now second.now) (λ e. e ≡ Stop.Memory) }
+pub(crate) fn plan_of(structs: &Structs, op: BinaryOp, first: &ExprType, second: &ExprType) -> Plan
+    requires first { IsSmallTyping (sizes_in structs.now) first.now }
+    requires second { IsSmallTyping (sizes_in structs.now) second.now }
+    ensures { operation_of result ≡ spec.operation (sizes_in structs.now) op first.now second.now }
 {
     match op {
         BinaryOp::Add => sum(structs, first, second),
         BinaryOp::Sub => difference(structs, first),
-        BinaryOp::Equal => Ok(equality(op, Plan::SamePointers, first)),
-        BinaryOp::NotEqual => Ok(equality(op, Plan::OtherPointers, first)),
-        _ => Ok(Plan::Words(op)),
+        BinaryOp::Equal => equality(op, Plan::SamePointers, first),
+        BinaryOp::NotEqual => equality(op, Plan::OtherPointers, first),
+        _ => Plan::Words(op),
     }
 }

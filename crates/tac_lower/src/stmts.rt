@@ -3,6 +3,7 @@
 ghost use Rattle.std.specs.Prelude.{map};
 ghost use Rattle.tac_lower.specs.tools.Emits.{Emits, Counts};
 ghost use Rattle.tac_lower.specs.Parts.{in_turn};
+ghost use Rattle.tac_lower.specs.tools.Well.{WellStmt, WellStmts};
 ghost use Rattle.tac_lower.specs.Stmts as spec;
 
 use crate::draft::Ends;
@@ -25,6 +26,7 @@ impl Writer {
         ends: Ends,
         s: &Stmt,
     ) -> Result<u32, Stop>
+        requires { WellStmt structs.now s.now }
         ensures { Emits (spec.stmt (spec.around_by structs.now in_main) s.now) ends self.old self.new result }
     {
         match s {
@@ -101,6 +103,7 @@ impl Writer {
         ends: Ends,
         items: &[Stmt],
     ) -> Result<u32, Stop>
+        requires { WellStmts structs.now items.now }
         ensures { Emits (in_turn (map (spec.stmt (spec.around_by structs.now in_main)) items.now)) ends self.old self.new result }
     {
         for s in items {
@@ -117,6 +120,7 @@ impl Writer {
         in_main: bool,
         s: &Boxed<Stmt>,
     ) -> Result<u32, Stop>
+        requires { WellStmt structs.now s.now }
         ensures { Counts (spec.stmt (spec.around_by structs.now in_main) s.now) self.now result }
     {
         if self.dry {

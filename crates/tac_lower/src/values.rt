@@ -3,6 +3,7 @@
 ghost use Rattle.std.specs.Prelude.{[]};
 ghost use Rattle.tac_lower.specs.declared.draft.Ends.{Ends};
 ghost use Rattle.tac_lower.specs.tools.Emits.{Emits, Yields, Counts};
+ghost use Rattle.tac_lower.specs.tools.Well.{WellExpr, WellExprs};
 ghost use Rattle.tac_lower.specs.Parts.{gathered};
 ghost use Rattle.tac_lower.specs.Values.{expr, value, values_of, truth, sizes_in};
 
@@ -18,6 +19,7 @@ impl Writer {
     /// An expression: a place, or the temporary with the value.
     #[cycle(values)]
     pub(crate) fn expr(&mut self, structs: &Structs, line: u32, e: &Expr) -> Result<Spot, Stop>
+        requires { WellExpr structs.now e.now }
         ensures { (ends : Ends) → Yields ((expr (sizes_in structs.now) e.now).yield line) ends self.old self.new result }
     {
         match &e.form {
@@ -33,7 +35,7 @@ impl Writer {
             Form::Index { pointer, index } => {
                 let a = self.value(structs, line, pointer)?;
                 let b = self.value(structs, line, index)?;
-                let words = words_behind(structs, &pointer.get().typing)?;
+                let words = words_behind(structs, &pointer.get().typing);
                 left(self.index(line, words, a, b))
             }
             Form::Field { whole, field } => {
@@ -88,7 +90,7 @@ impl Writer {
                 Logic::Neither => {
                     let a = self.value(structs, line, first)?;
                     let b = self.value(structs, line, second)?;
-                    let plan = plan_of(structs, *op, &first.get().typing, &second.get().typing)?;
+                    let plan = plan_of(structs, *op, &first.get().typing, &second.get().typing);
                     left(self.carry(line, plan, a, b))
                 }
             },
@@ -128,6 +130,7 @@ impl Writer {
         line: u32,
         e: &Boxed<Expr>,
     ) -> Result<u32, Stop>
+        requires { WellExpr structs.now e.now }
         ensures { (ends : Ends) → Emits (value line (expr (sizes_in structs.now) e.now)) ends self.old self.new result }
     {
         self.argument(structs, line, e.get())
@@ -136,6 +139,7 @@ impl Writer {
     /// The same for an argument of a call.
     #[cycle(values)]
     pub(crate) fn argument(&mut self, structs: &Structs, line: u32, e: &Expr) -> Result<u32, Stop>
+        requires { WellExpr structs.now e.now }
         ensures { (ends : Ends) → Emits (value line (expr (sizes_in structs.now) e.now)) ends self.old self.new result }
     {
         temp(self.expr(structs, line, e))
@@ -143,6 +147,7 @@ impl Writer {
 
     #[cycle(values)]
     fn truth(&mut self, structs: &Structs, line: u32, e: &Boxed<Expr>) -> Result<u32, Stop>
+        requires { WellExpr structs.now e.now }
         ensures { (ends : Ends) → Emits (truth line (expr (sizes_in structs.now) e.now)) ends self.old self.new result }
     {
         let a = self.value(structs, line, e)?;
@@ -152,6 +157,7 @@ impl Writer {
     /// How many instructions a truth value will have: a dry run counts them.
     #[cycle(values)]
     fn truth_points(&self, structs: &Structs, line: u32, e: &Boxed<Expr>) -> Result<u32, Stop>
+        requires { WellExpr structs.now e.now }
         ensures { Counts (truth line (expr (sizes_in structs.now) e.now)) self.now result }
     {
         if self.dry {
@@ -170,6 +176,7 @@ impl Writer {
         line: u32,
         arguments: &[Expr],
     ) -> Result<Items<u32>, Stop>
+        requires { WellExprs structs.now arguments.now }
         ensures { (ends : Ends) → Emits (gathered [] (values_of line (sizes_in structs.now) arguments.now)) ends self.old self.new result }
     {
         let mut temps = Items::new(structs.alloc());

@@ -1,14 +1,14 @@
 //! Assignments, returns and conditions.
 
-ghost use Rattle.std.specs.Prelude.{pos, ◌≡◌, ◌≤◌, IfOk, MatchResult};
+ghost use Rattle.std.specs.Prelude.{pos, ◌≡◌, ◌≤◌, IfOk};
 ghost use Rattle.tac_lower.specs.declared.draft.Ends.{Ends};
-ghost use Rattle.tac_lower.specs.declared.writer.Stop.{Stop};
 ghost use Rattle.tac_lower.specs.tools.Emits.{Emits, at_spot, write_at, changed};
 ghost use Rattle.tac_lower.specs.Instrs as spec;
 ghost use Rattle.tac_lower.specs.Parts.{chained};
 ghost use Rattle.tac_lower.specs.Stmts as stmts;
 ghost use Rattle.tac_lower.specs.Values.{expr, value, truth, carried, sizes_in};
 ghost use Rattle.tac_lower.specs.tools.Plans.{operation_of};
+ghost use Rattle.tac_lower.specs.tools.Well.{IsSmallTyping, WellExpr, WellExprThere};
 ghost use Rattle.c_typed.specs.Elaboration as elaboration;
 
 use crate::draft::Draft;
@@ -71,8 +71,9 @@ fn operator(op: AssignOp) -> BinaryOp
 }
 
 /// How a compound assignment changes a scalar of this type.
-fn update(structs: &Structs, op: AssignOp, scalar: &ExprType) -> Result<Plan, Stop>
-    ensures { MatchResult result (λ p. operation_of p ≡ elaboration.update (sizes_in structs.now) op scalar.now) (λ e. e ≡ Stop.Memory) }
+fn update(structs: &Structs, op: AssignOp, scalar: &ExprType) -> Plan
+    requires { IsSmallTyping (sizes_in structs.now) scalar.now }
+    ensures { operation_of result ≡ elaboration.update (sizes_in structs.now) op scalar.now }
 {
     plan_of(structs, operator(op), scalar, &ExprType::Int)
 }
@@ -185,6 +186,8 @@ impl Writer {
         target: &Expr,
         source: &Expr,
     ) -> Result<u32, Stop>
+        requires target { WellExpr structs.now target.now }
+        requires source { WellExpr structs.now source.now }
         ensures { (ends : Ends) → Emits (stmts.assigned line ((expr (sizes_in structs.now) target.now).yield line) (value line (expr (sizes_in structs.now) source.now))) ends self.old self.new result }
     {
         let spot = self.expr(structs, line, target)?;
@@ -206,7 +209,7 @@ impl Writer {
         ensures { (ends : Ends) → Emits (changed line (elaboration.update (sizes_in structs.now) op (stmts.scalar_at typing.now)) spot old b) ends self.old self.new result }
     {
         let scalar = scalar_at(structs.alloc(), typing);
-        let plan = update(structs, op, &scalar)?;
+        let plan = update(structs, op, &scalar);
         let c = self.carry(line, plan, old, b)?;
         self.write(line, spot, c)
     }
@@ -220,6 +223,8 @@ impl Writer {
         target: &Expr,
         source: &Expr,
     ) -> Result<u32, Stop>
+        requires target { WellExpr structs.now target.now }
+        requires source { WellExpr structs.now source.now }
         ensures { (ends : Ends) → Emits (stmts.compound line (sizes_in structs.now) op (expr (sizes_in structs.now) target.now) (value line (expr (sizes_in structs.now) source.now))) ends self.old self.new result }
     {
         let place = self.expr(structs, line, target)?;
@@ -236,6 +241,7 @@ impl Writer {
         op: AssignOp,
         target: &Expr,
     ) -> Result<u32, Stop>
+        requires { WellExpr structs.now target.now }
         ensures { (ends : Ends) → Emits (stmts.compound line (sizes_in structs.now) op (expr (sizes_in structs.now) target.now) (spec.constant line (pos 1))) ends self.old self.new result }
     {
         let place = self.expr(structs, line, target)?;
@@ -253,6 +259,8 @@ impl Writer {
         target: &Expr,
         source: &Expr,
     ) -> Result<u32, Stop>
+        requires target { WellExpr structs.now target.now }
+        requires source { WellExpr structs.now source.now }
         ensures { (ends : Ends) → Emits (stmts.assignment line (sizes_in structs.now) op (expr (sizes_in structs.now) target.now) (value line (expr (sizes_in structs.now) source.now))) ends self.old self.new result }
     {
         if is_plain(op) {
@@ -264,6 +272,7 @@ impl Writer {
 
     /// `putint`
     pub(crate) fn put_int(&mut self, structs: &Structs, line: u32, e: &Expr) -> Result<u32, Stop>
+        requires { WellExpr structs.now e.now }
         ensures { (ends : Ends) → Emits (stmts.put line (expr (sizes_in structs.now) e.now)) ends self.old self.new result }
     {
         let a = self.argument(structs, line, e)?;
@@ -271,6 +280,7 @@ impl Writer {
     }
 
     pub(crate) fn free(&mut self, structs: &Structs, line: u32, e: &Expr) -> Result<u32, Stop>
+        requires { WellExpr structs.now e.now }
         ensures { (ends : Ends) → Emits (stmts.freed line (expr (sizes_in structs.now) e.now)) ends self.old self.new result }
     {
         let a = self.argument(structs, line, e)?;
@@ -285,6 +295,7 @@ impl Writer {
         line: u32,
         given: &Option<Expr>,
     ) -> Result<u32, Stop>
+        requires { WellExprThere structs.now given.now }
         ensures { (ends : Ends) → Emits (stmts.return (stmts.around_by structs.now in_main) line given.now) ends self.old self.new result }
     {
         match given {
@@ -300,6 +311,7 @@ impl Writer {
     }
 
     fn truth_value(&mut self, structs: &Structs, line: u32, e: &Expr) -> Result<u32, Stop>
+        requires { WellExpr structs.now e.now }
         ensures { (ends : Ends) → Emits (truth line (expr (sizes_in structs.now) e.now)) ends self.old self.new result }
     {
         let a = self.argument(structs, line, e)?;
@@ -313,7 +325,8 @@ impl Writer {
         condition: &Condition,
         past: u32,
     ) -> Result<u32, Stop>
-        requires { past ≤ 65535 }
+        requires past { past ≤ 65535 }
+        requires well { WellExpr structs.now condition.now.value }
         ensures { (ends : Ends) → Emits (stmts.tested condition.now.line.0 (expr (sizes_in structs.now) condition.now.value) past) ends self.old self.new result }
     {
         let line = condition.line.0;

@@ -1,6 +1,5 @@
 -- What the code calls the answers of the elaboration. (A tool of proof: no public clause names it.)
-use Rattle.std.specs.Prelude.{◌≡◌, ℕ, ◌^◌, ◌<◌, ◌≤◌, Bool, true, false, List, Option, Some, None, All}
-use Rattle.c_typed.specs.Types.{times}
+use Rattle.std.specs.Prelude.{Bool, true, false}
 use Rattle.c_typed.specs.Elaboration.{Truth, Operation, Skips}
 use Rattle.tac_lower.specs.declared.plan.Plan.{Plan}
 use Rattle.tac_lower.specs.declared.plan.Logic.{Logic}
@@ -22,8 +21,3 @@ skips_of Logic.Neither = Skips.never
 abbrev pub truth_by_int : Bool → Truth
 truth_by_int true = Truth.not_zero
 truth_by_int false = Truth.not_null
-
--- the items of arrays within arrays, or there are too many for a `u32`
-abbrev pub IsProduct : List ℕ → ℕ → Option ℕ → Type 0
-IsProduct lengths words (Some n) = n ≡ times lengths words
-IsProduct lengths words None = All (λ n. 0 < n) lengths → 2 ^ 32 ≤ times lengths words

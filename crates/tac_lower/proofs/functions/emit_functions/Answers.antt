@@ -1,13 +1,16 @@
-use Rattle.std.proofs.Common.{◌≡◌, ◌+◌, ◌≤◌, nat_eq, ◌∷◌, length, drop, Some, Err, ap, sym, ◌∙◌, subst, arith}
+use Rattle.std.proofs.Common.{◌≡◌, ◌+◌, ◌≤◌, nat_eq, ◌∷◌, length, drop, false, Some, Err, refl, ap, sym, ◌∙◌, subst, arith}
 use Rattle.std.specs.Prelude.{slice_get}
 use Rattle.std.proofs.lemmas.Option.{slice_get-get_or}
 use Rattle.tac_lower.specs.Stmts.{around_by}
 use Rattle.tac_lower.specs.Functions.{function}
 use Rattle.tac_lower.specs.CodeOf.{sizes_of, first_numbers}
 use Rattle.tac_lower.specs.tools.Drafted.{IsWritten, Writes, Drafts}
-use Rattle.c_typed.proofs.Few.{few_globals, few_parameters}
+use Rattle.c_typed.proofs.Few.{all_get, few_globals, few_parameters}
 use Rattle.tac_lower.proofs.emitted.Gathers.{left_from}
 use Rattle.tac_lower.proofs.emitted.Drafting.{drafting_more, drafting_stopped, drafting_done}
+use Rattle.c_typed.specs.IsWell.{context_of, IsFunction}
+use Rattle.tac_lower.specs.tools.Well.{WellStmts}
+use Rattle.tac_lower.proofs.emitted.WellParts.{body_well}
 use Rattle.tac_lower.proofs.functions.emit_functions.Goals as goal
 
 pub new-progress-requires : goal.new-progress-requires
@@ -16,14 +19,25 @@ new-progress-requires c =
     let same = ap (λ x. length x.globals) c.program.view_is in
     omega (arith, c.len.ensures)
 
-pub function-requires : goal.function-requires
-function-requires c =
+pub function-requires-clause-parameters : goal.function-requires-clause-parameters
+function-requires-clause-parameters c =
     let t = c.args.program.now in
     let f = c.index-functions-k.result in
     let all : c.as_slice-functions.result.now ≡ t.functions = c.as_slice-functions.ensures ∙ ap (λ x. x.functions) c.program.view_is in
     let there : slice_get t.functions c.loop-k.k ≡ Some f =
     subst (λ fs. slice_get fs c.loop-k.k ≡ Some f) all (slice_get-get_or c.as_slice-functions.result.now c.loop-k.k f c.loop-k-test.true ∙ ap Some (sym c.index-functions-k.is)) in
     (let few = few_parameters t c.requires c.loop-k.k f there in omega arith)
+
+pub function-requires-clause-body : goal.function-requires-clause-body
+function-requires-clause-body c =
+    let t = c.args.program.now in
+    let f = c.index-functions-k.result in
+    let all : c.as_slice-functions.result.now ≡ t.functions = c.as_slice-functions.ensures ∙ ap (λ x. x.functions) c.program.view_is in
+    let there : slice_get t.functions c.loop-k.k ≡ Some f =
+    subst (λ fs. slice_get fs c.loop-k.k ≡ Some f) all (slice_get-get_or c.as_slice-functions.result.now c.loop-k.k f c.loop-k-test.true ∙ ap Some (sym c.index-functions-k.is)) in
+    let structs : c.new-structs.result ≡ t.structs = c.new-structs.ensures ∙ c.as_slice-items.ensures ∙ ap (λ x. x.structs) c.program.view_is in
+    let well = all_get (IsFunction t) t.functions c.loop-k.k f c.requires.functions there in
+    subst (λ ss. WellStmts ss f.body) (sym structs) (body_well t.structs (context_of t f) refl (record { looped = false; branched = false }) f.body well.body)
 
 pub loop-k-preserved : goal.loop-k-preserved
 loop-k-preserved c =

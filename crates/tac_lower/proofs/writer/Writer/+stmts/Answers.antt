@@ -1,4 +1,4 @@
-use Rattle.std.proofs.Common.{length, rules, map, ◌≡◌, ℕ, ◌+◌, ◌<◌, ◌≤◌, add-zero, Ok, Err, option_map, refl, ap, sym, ◌∙◌, subst, arith}
+use Rattle.std.proofs.Common.{rules, map, ◌≡◌, ◌+◌, ◌≤◌, add-zero, Ok, Err, option_map, refl, ap, sym, ◌∙◌, subst, arith}
 use Rattle.tac_lower.specs.declared.draft.Ends.{Ends}
 use Rattle.tac_lower.specs.tools.Emits.{Emits, Counts}
 use Rattle.tac_lower.specs.tools.Nested.{Forks, branch, closed, guarded, skipped}
@@ -12,12 +12,9 @@ use Rattle.tac_lower.proofs.emitted.StmtForms as form
 use Rattle.tac_lower.proofs.emitted.Turns.{next_item, no_item, no_more}
 use Rattle.tac_lower.proofs.emitted.Loops.{condition_steady, guard_steady, tested, untested, both_counted, while_turned, while_unturned, while_uncounted, while_body, while_round, while_unrounded, for_turned, for_unturned, for_uncounted, for_step_uncounted, for_body, for_round, for_unrounded}
 use Rattle.tac_lower.proofs.emitted.Forking.{fork_more, fork_done, fork_full, branch_full, forked, unforked}
-use denote.Param.Weighed.{most, at_most, w_this}
-use Rattle.std.proofs.Common.{List, get_or}
-use Rattle.c_typed.proofs.stmt.Stmt.TheLaws.{the_size}
-use Rattle.c_typed.specs.declared.stmt.Branch.{Branch}
-use Rattle.c_typed.specs.declared.stmt.Stmt.{Stmt}
-use Rattle.c_typed.specs.declared.stmt.Stmt.TheShapes.{weighed-Stmt-Par-1-at-3}
+use Rattle.tac_lower.proofs.emitted.StmtWeights.{weight, total, bodies, total_at, bodies_at, block_weight, if_weight, else_weight, while_weight, for_weight, par_weight}
+use Rattle.tac_lower.proofs.emitted.WellParts.{stmt_at, branch_at, block_well, if_well, else_well, while_well, for_well, par_well}
+use Rattle.tac_lower.specs.tools.Well.{WellStmt, WellStmts, WellBranches}
 use Rattle.tac_lower.proofs.writer.Writer.+stmts.Goals as goal
 
 pub stmt-returns-in-Block : goal.stmt-returns-in-Block
@@ -363,22 +360,50 @@ branch-returns-in_err-stmts t c =
     subst (λ r. Emits (closed (around_by c.args.structs.now c.args.in_main) c.args.body.now c.args.close) c.args.ends c.args.self.now c.stmts.new.self r) (sym told)
     (halt (in_turn (map (stmt (around_by c.args.structs.now c.args.in_main)) c.args.body.now)) (stop c.args.close) c.args.ends c.args.self.now c.stmts.new.self c.in_err-stmts.field-0.0 (subst (λ ss. Emits (in_turn (map (stmt (around_by c.args.structs.now c.args.in_main)) ss)) c.args.ends c.args.self.now c.stmts.new.self (Err c.in_err-stmts.field-0.0)) c.as_slice.ensures c.in_err-stmts.ensures))
 
-abbrev branch_depth : Branch Stmt → ℕ
-branch_depth b = weighed-Stmt-Par-1-at-3.weight Stmt the_size b
+pub stmt-stmts-requires : goal.stmt-stmts-requires
+stmt-stmts-requires t c = (omega (arith, block_weight c.args.s.now c.in-Block.items c.in-Block.is, ap total c.as_slice.ensures), subst (WellStmts c.args.structs.now) (sym c.as_slice.ensures) (block_well c.args.structs.now c.args.s.now c.requires c.in-Block.items c.in-Block.is))
 
--- a branch is no deeper than all branches
-no_deeper : (bs : List (Branch Stmt)) (i : ℕ) (b : Branch Stmt) → i < length bs → b ≡ get_or bs i b → most (w_this.weight Stmt the_size) b.body ≤ most branch_depth bs
-no_deeper bs i b within is =
-    let all : branch_depth b ≤ most branch_depth bs = subst (λ x. branch_depth x ≤ most branch_depth bs) (sym is) (at_most branch_depth bs i b within) in
-    let same : most (w_this.weight Stmt the_size) b.body ≤ branch_depth b = omega arith in
-    omega arith
+pub stmt-when-requires : goal.stmt-when-requires
+stmt-when-requires t c =
+    let both = if_well c.args.structs.now c.args.s.now c.requires c.in-If.line c.in-If.condition c.in-If.first c.in-If.second c.in-If.is in
+    (omega (arith, if_weight c.args.s.now c.in-If.line c.in-If.condition c.in-If.first c.in-If.second c.in-If.is), (omega arith, (both.0, both.1)))
+
+pub stmt-when-requires-in-Some : goal.stmt-when-requires-in-Some
+stmt-when-requires-in-Some t c =
+    let both = if_well c.args.structs.now c.args.s.now c.requires c.in-If.line c.in-If.condition c.in-If.first c.in-If.second c.in-If.is in
+    (omega (arith, if_weight c.args.s.now c.in-If.line c.in-If.condition c.in-If.first c.in-If.second c.in-If.is), (omega arith, (both.0, both.1)))
+
+pub stmt-otherwise-requires : goal.stmt-otherwise-requires
+stmt-otherwise-requires t c = (omega (arith, else_weight c.args.s.now c.in-If.line c.in-If.condition c.in-If.first c.in-If.second c.in-Some.second c.in-If.is c.in-Some.is), else_well c.args.structs.now c.args.s.now c.requires c.in-If.line c.in-If.condition c.in-If.first c.in-If.second c.in-Some.second c.in-If.is c.in-Some.is)
+
+pub stmt-while_loop-requires : goal.stmt-while_loop-requires
+stmt-while_loop-requires t c =
+    let both = while_well c.args.structs.now c.args.s.now c.requires c.in-While.line c.in-While.condition c.in-While.body c.in-While.is in
+    (omega (arith, while_weight c.args.s.now c.in-While.line c.in-While.condition c.in-While.body c.in-While.is), (both.0, both.1))
+
+pub stmt-stmt-requires : goal.stmt-stmt-requires
+stmt-stmt-requires t c = (omega (arith, for_weight c.args.s.now c.in-For.line c.in-For.start c.in-For.condition c.in-For.step c.in-For.body c.in-For.is, ap weight c.get.ensures), subst (WellStmt c.args.structs.now) (sym c.get.ensures) (for_well c.args.structs.now c.args.s.now c.requires c.in-For.line c.in-For.start c.in-For.condition c.in-For.step c.in-For.body c.in-For.is).0)
+
+pub stmt-points-requires : goal.stmt-points-requires
+stmt-points-requires t c = (omega (arith, for_weight c.args.s.now c.in-For.line c.in-For.start c.in-For.condition c.in-For.step c.in-For.body c.in-For.is), (for_well c.args.structs.now c.args.s.now c.requires c.in-For.line c.in-For.start c.in-For.condition c.in-For.step c.in-For.body c.in-For.is).3)
+
+pub stmt-points-requires-in-For : goal.stmt-points-requires-in-For
+stmt-points-requires-in-For t c = (omega (arith, for_weight c.args.s.now c.in-For.line c.in-For.start c.in-For.condition c.in-For.step c.in-For.body c.in-For.is), (for_well c.args.structs.now c.args.s.now c.requires c.in-For.line c.in-For.start c.in-For.condition c.in-For.step c.in-For.body c.in-For.is).2)
+
+pub stmt-stmt-requires-in-For : goal.stmt-stmt-requires-in-For
+stmt-stmt-requires-in-For t c = (omega (arith, for_weight c.args.s.now c.in-For.line c.in-For.start c.in-For.condition c.in-For.step c.in-For.body c.in-For.is, ap weight c.get-in-For.ensures), subst (WellStmt c.args.structs.now) (sym c.get-in-For.ensures) (for_well c.args.structs.now c.args.s.now c.requires c.in-For.line c.in-For.start c.in-For.condition c.in-For.step c.in-For.body c.in-For.is).3)
+
+pub stmt-stmt-requires-in-For-2 : goal.stmt-stmt-requires-in-For-2
+stmt-stmt-requires-in-For-2 t c = (omega (arith, for_weight c.args.s.now c.in-For.line c.in-For.start c.in-For.condition c.in-For.step c.in-For.body c.in-For.is, ap weight c.get-in-For-2.ensures), subst (WellStmt c.args.structs.now) (sym c.get-in-For-2.ensures) (for_well c.args.structs.now c.args.s.now c.requires c.in-For.line c.in-For.start c.in-For.condition c.in-For.step c.in-For.body c.in-For.is).2)
+
+pub stmt-par-requires : goal.stmt-par-requires
+stmt-par-requires t c = (omega (arith, par_weight c.args.s.now c.in-Par.line c.in-Par.branches c.in-Par.is, ap bodies c.as_slice-in-Par.ensures), subst (WellBranches c.args.structs.now) (sym c.as_slice-in-Par.ensures) (par_well c.args.structs.now c.args.s.now c.requires c.in-Par.line c.in-Par.branches c.in-Par.is))
+
+pub stmts-stmt-requires : goal.stmts-stmt-requires
+stmts-stmt-requires t c = (omega (arith, total_at c.args.items.now c.loop-s.s-index c.s-item.result c.loop-s-test.true c.s-item.is), stmt_at c.args.structs.now c.args.items.now c.loop-s.s-index c.s-item.result c.loop-s-test.true c.s-item.is c.requires)
 
 pub branches-branch-self-requires : goal.branches-branch-self-requires
-branches-branch-self-requires t c =
-    let e = no_deeper c.args.branches.now c.loop-b.b-index c.b-item.result c.loop-b-test.true c.b-item.is in
-    (omega (arith, e), tt)
+branches-branch-self-requires t c = (omega (arith, bodies_at c.args.branches.now c.loop-b.b-index c.b-item.result c.loop-b-test.true c.b-item.is), branch_at c.args.structs.now c.args.branches.now c.loop-b.b-index c.b-item.result c.loop-b-test.true c.b-item.is c.requires)
 
 pub fork-branch_points-requires : goal.fork-branch_points-requires
-fork-branch_points-requires t c =
-    let e = no_deeper c.args.branches.now c.loop-b.b-index c.b-item.result c.loop-b-test.true c.b-item.is in
-    (omega (arith, e), tt)
+fork-branch_points-requires t c = (omega (arith, bodies_at c.args.branches.now c.loop-b.b-index c.b-item.result c.loop-b-test.true c.b-item.is), branch_at c.args.structs.now c.args.branches.now c.loop-b.b-index c.b-item.result c.loop-b-test.true c.b-item.is c.requires)

@@ -7,11 +7,7 @@ use Rattle.tac_lower.specs.tools.Emits.{Emits}
 use Rattle.tac_lower.specs.tools.Nested.{branch}
 use Rattle.tac_lower.proofs.emitted.Turns.{Rest}
 use Rattle.tac_lower.proofs.emitted.Forking.{Forking}
-use denote.Param.Weighed.{most, w_this}
-use Rattle.c_typed.proofs.stmt.Stmt.TheLaws.{the_size}
-use Rattle.c_typed.specs.declared.stmt.Branch.{Branch}
-use Rattle.c_typed.specs.declared.stmt.Stmt.{Stmt}
-use Rattle.c_typed.specs.declared.stmt.Stmt.TheShapes.{weighed-Stmt-Par-1-at-3}
+use Rattle.tac_lower.proofs.emitted.StmtWeights.{weight, total, bodies}
 use Rattle.tac_lower.proofs.writer.Writer.+stmts.Given as goal
 
 -- whatever emits the other statements now has emitted all
@@ -33,42 +29,36 @@ invariant-fork-loop-b l =
     Forking (l.self.next.at + 1) (map (branch (around_by l.structs l.in_main)) l.branches) (map (branch (around_by l.structs l.in_main)) (drop l.b-index l.branches))
     l.self.room l.join l.entries
 
--- Each call is made for a part that is less deep, or for one as deep by a function that is named later here.
-abbrev depth : Stmt → ℕ
-depth s = w_this.weight Stmt the_size s
-
-abbrev branch_depth : Branch Stmt → ℕ
-branch_depth b = weighed-Stmt-Par-1-at-3.weight Stmt the_size b
-
+-- Each call is made for a part, or for one as large by a function that is named later here.
 abbrev pub decreases-stmt : goal.decreases-stmt
-decreases-stmt l = 8 * depth l.s.now
+decreases-stmt l = 8 * weight l.s.now
 
 abbrev pub decreases-points : goal.decreases-points
-decreases-points l = 8 * depth l.s.now + 1
+decreases-points l = 8 * weight l.s.now + 1
 
 abbrev pub decreases-when : goal.decreases-when
-decreases-when l = 8 * depth l.first.now + 2
+decreases-when l = 8 * weight l.first.now + 2
 
 abbrev pub decreases-otherwise : goal.decreases-otherwise
-decreases-otherwise l = 8 * depth l.second.now + 2
+decreases-otherwise l = 8 * weight l.second.now + 2
 
 abbrev pub decreases-while_loop : goal.decreases-while_loop
-decreases-while_loop l = 8 * depth l.body.now + 2
+decreases-while_loop l = 8 * weight l.body.now + 2
 
 abbrev pub decreases-stmts : goal.decreases-stmts
-decreases-stmts l = 8 * most depth l.items.now + 2
+decreases-stmts l = 8 * total l.items.now + 2
 
 abbrev pub decreases-branch : goal.decreases-branch
-decreases-branch l = 8 * most depth l.body.now + 3
+decreases-branch l = 8 * total l.body.now + 3
 
 abbrev pub decreases-branch_points : goal.decreases-branch_points
-decreases-branch_points l = 8 * most depth l.body.now + 4
+decreases-branch_points l = 8 * total l.body.now + 4
 
 abbrev pub decreases-fork : goal.decreases-fork
-decreases-fork l = 8 * most branch_depth l.branches.now + 5
+decreases-fork l = 8 * bodies l.branches.now + 5
 
 abbrev pub decreases-branches : goal.decreases-branches
-decreases-branches l = 8 * most branch_depth l.branches.now + 5
+decreases-branches l = 8 * bodies l.branches.now + 5
 
 abbrev pub decreases-par : goal.decreases-par
-decreases-par l = 8 * most branch_depth l.branches.now + 6
+decreases-par l = 8 * bodies l.branches.now + 6

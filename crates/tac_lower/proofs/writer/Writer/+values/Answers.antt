@@ -15,6 +15,10 @@ use Rattle.tac_lower.proofs.pieces.Levels as levels
 use Rattle.tac_lower.proofs.pieces.Levels.{typing_is}
 use Rattle.tac_lower.proofs.emitted.Chains.{follow, stopped, yields, yields_stopped, yields_part, part_stopped, leaves, leaves_stopped, counted, counted_stopped, too_long, dry_stopped, valued, truth_counts, prefix_counts, carried_counts}
 use Rattle.tac_lower.proofs.emitted.Gathers.{left_from, next_argument, no_argument, all_arguments}
+use Rattle.c_typed.specs.declared.expr.Expr.{Expr}
+use Rattle.tac_lower.specs.tools.Well.{IsSmallTyping}
+use Rattle.tac_lower.proofs.emitted.Weights.{weight, total, total_at, deref_weight, index_weight, field_weight, arrow_weight, read_weight, decay_weight, address_weight, prefix_weight, binary_weight, call_weight, new_weight}
+use Rattle.tac_lower.proofs.emitted.WellParts.{expr_at, expr_small, deref_well, index_pointer_well, index_well, field_well, arrow_well, read_well, decay_well, address_well, prefix_well, left_well, right_well, call_well, new_well}
 use Rattle.tac_lower.proofs.writer.Writer.+values.Goals as goal
 
 pub expr-returns-in-Deref : goal.expr-returns-in-Deref
@@ -24,8 +28,8 @@ expr-returns-in-Deref t c = λ ends.
     (leaves ((value c.args.line (expr (sizes_in c.args.structs.now) c.in-Deref.pointer))) ends c.args.self.now c.value.new.self c.value.result
     (c.value.ensures ends)))
 
-pub expr-returns-in_ok-words-in-Index : goal.expr-returns-in_ok-words-in-Index
-expr-returns-in_ok-words-in-Index t c = λ ends.
+pub expr-returns-in_ok-b-in-Index : goal.expr-returns-in_ok-b-in-Index
+expr-returns-in_ok-b-in-Index t c = λ ends.
     subst (λ y. Yields (y c.args.line) ends c.args.self.now c.index.new.self c.left-in-Index.result) (sym (levels.index_is (sizes_in c.args.structs.now) c.args.e.now c.in-Index.pointer c.in-Index.index c.in-Index.is))
     (subst (λ r. Yields (left ((value c.args.line (expr (sizes_in c.args.structs.now) c.in-Index.pointer)) ▷ λ a. (value c.args.line (expr (sizes_in c.args.structs.now) c.in-Index.index)) ▷ λ b. i.index c.args.line (words_of (sizes_in c.args.structs.now) (object_of (expr (sizes_in c.args.structs.now) c.in-Index.pointer).typing)) a b)) ends c.args.self.now c.index.new.self r) (sym c.left-in-Index.ensures)
     (leaves ((value c.args.line (expr (sizes_in c.args.structs.now) c.in-Index.pointer)) ▷ λ a. (value c.args.line (expr (sizes_in c.args.structs.now) c.in-Index.index)) ▷ λ b. i.index c.args.line (words_of (sizes_in c.args.structs.now) (object_of (expr (sizes_in c.args.structs.now) c.in-Index.pointer).typing)) a b) ends c.args.self.now c.index.new.self c.index.result
@@ -33,7 +37,7 @@ expr-returns-in_ok-words-in-Index t c = λ ends.
     (c.in_ok-a-in-Index.ensures ends)
     ((follow 0 ((value c.args.line (expr (sizes_in c.args.structs.now) c.in-Index.index))) (λ b. i.index c.args.line (words_of (sizes_in c.args.structs.now) (object_of (expr (sizes_in c.args.structs.now) c.in-Index.pointer).typing)) c.in_ok-a-in-Index.a b) ends c.value-in-Index.new.self c.value-in-Index-2.new.self c.index.new.self c.in_ok-b-in-Index.b c.index.result (λ x. refl)
     (c.in_ok-b-in-Index.ensures ends)
-    (subst (λ w. Emits (i.index c.args.line w c.in_ok-a-in-Index.a c.in_ok-b-in-Index.b) ends c.value-in-Index-2.new.self c.index.new.self c.index.result) (c.in_ok-words-in-Index.ensures ∙ ap (λ t. words_of (sizes_in c.args.structs.now) (object_of t)) (ap (λ x. x.typing) c.get.ensures ∙ sym (typing_is (sizes_in c.args.structs.now) c.in-Index.pointer))) (c.index.ensures ends))))))))
+    (subst (λ w. Emits (i.index c.args.line w c.in_ok-a-in-Index.a c.in_ok-b-in-Index.b) ends c.value-in-Index-2.new.self c.index.new.self c.index.result) (c.words_behind-words.ensures ∙ ap (λ t. words_of (sizes_in c.args.structs.now) (object_of t)) (ap (λ x. x.typing) c.get.ensures ∙ sym (typing_is (sizes_in c.args.structs.now) c.in-Index.pointer))) (c.index.ensures ends))))))))
 
 pub expr-returns-in_err-a-in-Index : goal.expr-returns-in_err-a-in-Index
 expr-returns-in_err-a-in-Index t c = λ ends.
@@ -312,8 +316,8 @@ expr-returns-in_err-y-in-Either t c = λ ends.
     (counted (λ k. i.test_past c.args.line c.in_ok-x-in-Either.x (k + 1)) (truth c.args.line (expr (sizes_in c.args.structs.now) c.in-Binary.second)).points c.in_ok-past-in-Either.past ends c.truth-in-Either.new.self c.test_past.new.self c.in_ok-test_past-in-Either.field-0 (λ x. refl) (c.in_ok-past-in-Either.ensures) (c.in_ok-test_past-in-Either.ensures ends))
     ((stopped 0 (truth c.args.line (expr (sizes_in c.args.structs.now) c.in-Binary.second)) (settled c.args.line) ends c.test_past.new.self c.truth-in-Either-2.new.self c.in_err-y-in-Either.field-0.0 (c.in_err-y-in-Either.ensures ends)))))))))
 
-pub expr-returns-in_ok-plan-in-Neither : goal.expr-returns-in_ok-plan-in-Neither
-expr-returns-in_ok-plan-in-Neither t c = λ ends.
+pub expr-returns-in_ok-b-in-Neither : goal.expr-returns-in_ok-b-in-Neither
+expr-returns-in_ok-b-in-Neither t c = λ ends.
     subst (λ y. Yields (y c.args.line) ends c.args.self.now c.carry.new.self c.left-in-Neither.result) (sym (levels.binary_is (sizes_in c.args.structs.now) c.args.e.now c.in-Binary.first c.in-Binary.op c.in-Binary.second c.in-Binary.is))
     (subst (λ r. Yields (left (binary (sizes_in c.args.structs.now) c.in-Binary.op (expr (sizes_in c.args.structs.now) c.in-Binary.first) (expr (sizes_in c.args.structs.now) c.in-Binary.second) c.args.line)) ends c.args.self.now c.carry.new.self r) (sym c.left-in-Neither.ensures)
     (leaves (binary (sizes_in c.args.structs.now) c.in-Binary.op (expr (sizes_in c.args.structs.now) c.in-Binary.first) (expr (sizes_in c.args.structs.now) c.in-Binary.second) c.args.line) ends c.args.self.now c.carry.new.self c.carry.result
@@ -322,7 +326,7 @@ expr-returns-in_ok-plan-in-Neither t c = λ ends.
     (c.in_ok-a-in-Neither.ensures ends)
     ((follow 0 ((value c.args.line (expr (sizes_in c.args.structs.now) c.in-Binary.second))) (λ b. carried c.args.line (operation (sizes_in c.args.structs.now) c.in-Binary.op (expr (sizes_in c.args.structs.now) c.in-Binary.first).typing (expr (sizes_in c.args.structs.now) c.in-Binary.second).typing) c.in_ok-a-in-Neither.a b) ends c.value-in-Neither.new.self c.value-in-Neither-2.new.self c.carry.new.self c.in_ok-b-in-Neither.b c.carry.result (λ x. carried_counts c.args.line (operation (sizes_in c.args.structs.now) c.in-Binary.op (expr (sizes_in c.args.structs.now) c.in-Binary.first).typing (expr (sizes_in c.args.structs.now) c.in-Binary.second).typing) c.in_ok-a-in-Neither.a x c.in_ok-a-in-Neither.a 0)
     (c.in_ok-b-in-Neither.ensures ends)
-    (subst (λ p. Emits (carried c.args.line p c.in_ok-a-in-Neither.a c.in_ok-b-in-Neither.b) ends c.value-in-Neither-2.new.self c.carry.new.self c.carry.result) (c.in_ok-plan-in-Neither.ensures ∙ ap (λ t. operation (sizes_in c.args.structs.now) c.in-Binary.op t c.get-in-Neither-2.result.now.typing) (ap (λ x. x.typing) c.get-in-Neither.ensures ∙ sym (typing_is (sizes_in c.args.structs.now) c.in-Binary.first)) ∙ ap (λ t. operation (sizes_in c.args.structs.now) c.in-Binary.op (expr (sizes_in c.args.structs.now) c.in-Binary.first).typing t) (ap (λ x. x.typing) c.get-in-Neither-2.ensures ∙ sym (typing_is (sizes_in c.args.structs.now) c.in-Binary.second))) (c.carry.ensures ends))))))))
+    (subst (λ p. Emits (carried c.args.line p c.in_ok-a-in-Neither.a c.in_ok-b-in-Neither.b) ends c.value-in-Neither-2.new.self c.carry.new.self c.carry.result) (c.plan_of-plan.ensures ∙ ap (λ t. operation (sizes_in c.args.structs.now) c.in-Binary.op t c.get-in-Neither-2.result.now.typing) (ap (λ x. x.typing) c.get-in-Neither.ensures ∙ sym (typing_is (sizes_in c.args.structs.now) c.in-Binary.first)) ∙ ap (λ t. operation (sizes_in c.args.structs.now) c.in-Binary.op (expr (sizes_in c.args.structs.now) c.in-Binary.first).typing t) (ap (λ x. x.typing) c.get-in-Neither-2.ensures ∙ sym (typing_is (sizes_in c.args.structs.now) c.in-Binary.second))) (c.carry.ensures ends))))))))
 
 pub expr-returns-in_err-a-in-Neither : goal.expr-returns-in_err-a-in-Neither
 expr-returns-in_err-a-in-Neither t c = λ ends.
@@ -465,3 +469,75 @@ pub arguments-returns : goal.arguments-returns
 arguments-returns t c = λ ends.
     c.loop-argument.invariant ends c.loop-argument.self (Ok c.loop-argument.temps)
     (all_arguments c.args.line (sizes_in c.args.structs.now) c.args.arguments.now c.loop-argument.argument-index c.loop-argument.temps ends c.loop-argument.self c.loop-argument-test.false)
+
+pub expr-words_behind-words-requires : goal.expr-words_behind-words-requires
+expr-words_behind-words-requires t c =
+    subst (λ (e : Expr). IsSmallTyping (sizes_in c.args.structs.now) e.typing) (sym c.get.ensures) (expr_small c.args.structs.now c.in-Index.pointer (index_pointer_well c.args.structs.now c.args.e.now c.requires c.in-Index.pointer c.in-Index.index c.in-Index.is))
+
+pub expr-plan_of-plan-requires-clause-first : goal.expr-plan_of-plan-requires-clause-first
+expr-plan_of-plan-requires-clause-first t c =
+    subst (λ (e : Expr). IsSmallTyping (sizes_in c.args.structs.now) e.typing) (sym c.get-in-Neither.ensures) (expr_small c.args.structs.now c.in-Binary.first (left_well c.args.structs.now c.args.e.now c.requires c.in-Binary.first c.in-Binary.op c.in-Binary.second c.in-Binary.is))
+
+pub expr-plan_of-plan-requires-clause-second : goal.expr-plan_of-plan-requires-clause-second
+expr-plan_of-plan-requires-clause-second t c =
+    subst (λ (e : Expr). IsSmallTyping (sizes_in c.args.structs.now) e.typing) (sym c.get-in-Neither-2.ensures) (expr_small c.args.structs.now c.in-Binary.second (right_well c.args.structs.now c.args.e.now c.requires c.in-Binary.first c.in-Binary.op c.in-Binary.second c.in-Binary.is))
+
+pub expr-value-requires : goal.expr-value-requires
+expr-value-requires t c = (omega (arith, deref_weight c.args.e.now c.in-Deref.pointer c.in-Deref.is), deref_well c.args.structs.now c.args.e.now c.requires c.in-Deref.pointer c.in-Deref.is)
+
+pub expr-value-requires-in-Index : goal.expr-value-requires-in-Index
+expr-value-requires-in-Index t c = (omega (arith, index_weight c.args.e.now c.in-Index.pointer c.in-Index.index c.in-Index.is), index_pointer_well c.args.structs.now c.args.e.now c.requires c.in-Index.pointer c.in-Index.index c.in-Index.is)
+
+pub expr-value-requires-in-Index-2 : goal.expr-value-requires-in-Index-2
+expr-value-requires-in-Index-2 t c = (omega (arith, index_weight c.args.e.now c.in-Index.pointer c.in-Index.index c.in-Index.is), index_well c.args.structs.now c.args.e.now c.requires c.in-Index.pointer c.in-Index.index c.in-Index.is)
+
+pub expr-expr-requires : goal.expr-expr-requires
+expr-expr-requires t c = (omega (arith, field_weight c.args.e.now c.in-Field.whole c.in-Field.field c.in-Field.is, ap weight c.get-in-Field.ensures), field_well c.args.structs.now c.args.e.now c.requires c.in-Field.whole c.get-in-Field.result.now c.in-Field.field c.in-Field.is c.get-in-Field.ensures)
+
+pub expr-value-requires-in-Arrow : goal.expr-value-requires-in-Arrow
+expr-value-requires-in-Arrow t c = (omega (arith, arrow_weight c.args.e.now c.in-Arrow.pointer c.in-Arrow.field c.in-Arrow.is), arrow_well c.args.structs.now c.args.e.now c.requires c.in-Arrow.pointer c.in-Arrow.field c.in-Arrow.is)
+
+pub expr-expr-requires-in-Read : goal.expr-expr-requires-in-Read
+expr-expr-requires-in-Read t c = (omega (arith, read_weight c.args.e.now c.in-Read.place c.in-Read.is, ap weight c.get-in-Read.ensures), read_well c.args.structs.now c.args.e.now c.requires c.in-Read.place c.get-in-Read.result.now c.in-Read.is c.get-in-Read.ensures)
+
+pub expr-expr-requires-in-Decay : goal.expr-expr-requires-in-Decay
+expr-expr-requires-in-Decay t c = (omega (arith, decay_weight c.args.e.now c.in-Decay.place c.in-Decay.is, ap weight c.get-in-Decay.ensures), decay_well c.args.structs.now c.args.e.now c.requires c.in-Decay.place c.get-in-Decay.result.now c.in-Decay.is c.get-in-Decay.ensures)
+
+pub expr-expr-requires-in-Address : goal.expr-expr-requires-in-Address
+expr-expr-requires-in-Address t c = (omega (arith, address_weight c.args.e.now c.in-Address.place c.in-Address.is, ap weight c.get-in-Address.ensures), address_well c.args.structs.now c.args.e.now c.requires c.in-Address.place c.get-in-Address.result.now c.in-Address.is c.get-in-Address.ensures)
+
+pub expr-value-requires-in-Prefix : goal.expr-value-requires-in-Prefix
+expr-value-requires-in-Prefix t c = (omega (arith, prefix_weight c.args.e.now c.in-Prefix.op c.in-Prefix.operand c.in-Prefix.is), prefix_well c.args.structs.now c.args.e.now c.requires c.in-Prefix.op c.in-Prefix.operand c.in-Prefix.is)
+
+pub expr-truth-requires : goal.expr-truth-requires
+expr-truth-requires t c = (omega (arith, binary_weight c.args.e.now c.in-Binary.first c.in-Binary.op c.in-Binary.second c.in-Binary.is), left_well c.args.structs.now c.args.e.now c.requires c.in-Binary.first c.in-Binary.op c.in-Binary.second c.in-Binary.is)
+
+pub expr-truth_points-requires : goal.expr-truth_points-requires
+expr-truth_points-requires t c = (omega (arith, binary_weight c.args.e.now c.in-Binary.first c.in-Binary.op c.in-Binary.second c.in-Binary.is), right_well c.args.structs.now c.args.e.now c.requires c.in-Binary.first c.in-Binary.op c.in-Binary.second c.in-Binary.is)
+
+pub expr-truth-requires-in-Both : goal.expr-truth-requires-in-Both
+expr-truth-requires-in-Both t c = (omega (arith, binary_weight c.args.e.now c.in-Binary.first c.in-Binary.op c.in-Binary.second c.in-Binary.is), right_well c.args.structs.now c.args.e.now c.requires c.in-Binary.first c.in-Binary.op c.in-Binary.second c.in-Binary.is)
+
+pub expr-truth-requires-in-Either : goal.expr-truth-requires-in-Either
+expr-truth-requires-in-Either t c = (omega (arith, binary_weight c.args.e.now c.in-Binary.first c.in-Binary.op c.in-Binary.second c.in-Binary.is), left_well c.args.structs.now c.args.e.now c.requires c.in-Binary.first c.in-Binary.op c.in-Binary.second c.in-Binary.is)
+
+pub expr-truth_points-requires-in-Either : goal.expr-truth_points-requires-in-Either
+expr-truth_points-requires-in-Either t c = (omega (arith, binary_weight c.args.e.now c.in-Binary.first c.in-Binary.op c.in-Binary.second c.in-Binary.is), right_well c.args.structs.now c.args.e.now c.requires c.in-Binary.first c.in-Binary.op c.in-Binary.second c.in-Binary.is)
+
+pub expr-truth-requires-in-Either-2 : goal.expr-truth-requires-in-Either-2
+expr-truth-requires-in-Either-2 t c = (omega (arith, binary_weight c.args.e.now c.in-Binary.first c.in-Binary.op c.in-Binary.second c.in-Binary.is), right_well c.args.structs.now c.args.e.now c.requires c.in-Binary.first c.in-Binary.op c.in-Binary.second c.in-Binary.is)
+
+pub expr-value-requires-in-Neither : goal.expr-value-requires-in-Neither
+expr-value-requires-in-Neither t c = (omega (arith, binary_weight c.args.e.now c.in-Binary.first c.in-Binary.op c.in-Binary.second c.in-Binary.is), left_well c.args.structs.now c.args.e.now c.requires c.in-Binary.first c.in-Binary.op c.in-Binary.second c.in-Binary.is)
+
+pub expr-value-requires-in-Neither-2 : goal.expr-value-requires-in-Neither-2
+expr-value-requires-in-Neither-2 t c = (omega (arith, binary_weight c.args.e.now c.in-Binary.first c.in-Binary.op c.in-Binary.second c.in-Binary.is), right_well c.args.structs.now c.args.e.now c.requires c.in-Binary.first c.in-Binary.op c.in-Binary.second c.in-Binary.is)
+
+pub expr-arguments-requires : goal.expr-arguments-requires
+expr-arguments-requires t c = (omega (arith, call_weight c.args.e.now c.in-Call.function c.in-Call.arguments c.in-Call.is, ap total c.as_slice.ensures), call_well c.args.structs.now c.args.e.now c.requires c.in-Call.function c.in-Call.arguments c.as_slice.result.now c.in-Call.is c.as_slice.ensures)
+
+pub expr-value-requires-in-Some : goal.expr-value-requires-in-Some
+expr-value-requires-in-Some t c = (omega (arith, new_weight c.args.e.now c.in-New.site c.in-New.item c.in-New.count c.in-Some.count c.in-New.is c.in-Some.is), new_well c.args.structs.now c.args.e.now c.requires c.in-New.site c.in-New.item c.in-New.count c.in-Some.count c.in-New.is c.in-Some.is)
+
+pub arguments-argument-requires : goal.arguments-argument-requires
+arguments-argument-requires t c = (omega (arith, total_at c.args.arguments.now c.loop-argument.argument-index c.argument-item.result c.loop-argument-test.true c.argument-item.is), expr_at c.args.structs.now c.args.arguments.now c.loop-argument.argument-index c.argument-item.result c.loop-argument-test.true c.argument-item.is c.requires)
