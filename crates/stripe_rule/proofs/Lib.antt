@@ -1,6 +1,7 @@
 pub mod Sums
 pub mod Kin
 pub mod Kids
+pub mod Branches
 pub mod Merging
 pub mod Backward
 pub mod Moves

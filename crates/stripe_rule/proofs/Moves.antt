@@ -1,5 +1,5 @@
 -- Each kind of step keeps the rule.
-use Rattle.std.proofs.Common.{◌≡◌, ◌≢◌, inr, ⊎_elim, ℕ, ◌+◌, ◌%◌, ◌^◌, ◌<◌, ◌≤◌, min, eqb, eq-eqb, ne_eqb, true, false, cond, true≢false, List, [], ◌∷◌, length, get_or, set, refl, sym, ap, ◌∙◌, subst, arith, length-set, get_or-set_other, get_or-set_same, lt_of_not-le}
+use Rattle.std.proofs.Common.{◌≡◌, ◌≢◌, inr, ⊎_elim, ℕ, ◌+◌, ◌%◌, ◌^◌, ◌<◌, ◌≤◌, min, eqb, eq-eqb, ne_eqb, Bool, true, false, cond, true≢false, List, [], ◌∷◌, length, get_or, set, refl, sym, ap, ◌∙◌, subst, arith, length-set, get_or-set_other, get_or-set_same, lt_of_not-le}
 use mathlib.Core.Option.{none, some}
 use mathlib.Core.Logic.{dite}
 use native.Mathlib.Decide.{ℕ_discrete, dec_le}
@@ -30,6 +30,10 @@ St = State Content View
 pub off : false ≡ true → ⊥
 off e = true≢false (sym e)
 
+goes_on : (b : Bool) → (b ≡ true → ⊥) → b ≡ false
+goes_on true never = absurd (never refl)
+goes_on false never = refl
+
 -- a step that changes nothing
 still : (s : St) (i id : ℕ) (v : View) (c : List (ℕ × Content)) → get_elem? s.views id ≡ some v → stepped s i (get_or s.words i 0) id c v keeps ≡ s
 still s i id v c at = λ j. record { words = set-get_or s.words i 0 j; homes = s.homes; views = set_again s.views id v at j }
@@ -59,7 +63,7 @@ alone_all vs id w old apart i j x y ex ey hx hy same =
 
 -- a view whose words, history and cells did not change for it
 fits_still : (p : Terms) (ws ws' : List ℕ) (h : List Entry) (u : View) → get_or ws (p.stripes + 1) 0 ≤ get_or ws' (p.stripes + 1) 0 → get_or ws' (p.stripes + 2) 0 ≡ get_or ws (p.stripes + 2) 0 → (u.holds ≡ true → get_or ws' u.stripe 0 ≡ get_or ws u.stripe 0) → Fits p ws h u → Fits p ws' h u
-fits_still p ws ws' h u clock halt same f = record { plan = f.plan; floor = f.floor; logged = f.logged; ready = f.ready; idle = f.idle; share = f.share; above = f.above; spent = λ on. let a = f.spent on in omega arith; halted = λ on z. f.halted on (sym halt ∙ z); held = λ on. let x = f.held on in (x.0, x.1, same on ∙ x.2, x.3) }
+fits_still p ws ws' h u clock halt same f = record { plan = f.plan; floor = f.floor; logged = f.logged; ready = f.ready; idle = f.idle; share = f.share; above = f.above; spent = λ on. let a = f.spent on in omega arith; late = let a = f.late in omega arith; halted = λ on z. f.halted on (sym halt ∙ z); held = λ on. let x = f.held on in (x.0, x.1, same on ∙ x.2, x.3) }
 
 -- a step that leaves the words, the slots and the history, and what the view has in them
 kept_same : (p : Terms) (s : St) (h : Kept p s) (id : ℕ) (v w : View) → get_elem? s.views id ≡ some v → w.name ≡ v.name → w.parts ≡ v.parts → w.kids ≡ v.kids → w.floor ≡ v.floor → w.log ≡ v.log → w.holds ≡ v.holds → w.stripe ≡ v.stripe → Fits p s.words h.history w → (((j : ℕ) (u : View) → get_elem? (set s.views id w) j ≡ some u → Fits p s.words h.history u) → get_or s.words (p.stripes + 1) 0 + total (λ u. u.ready) (set s.views id w) ≤ p.budget + ALL)
@@ -103,7 +107,7 @@ takes_lock p id k v c lt idle named some_part s h len at fit = exchanged (get_or
     F x = (w : View) × (a : Act Content) × Valid s.homes c a × Kept p (stepped s k x id c w a) × Takes (step (p.stripes + 1) k 0 v.name none) (v, c) (get_or s.words k 0) (w, carried_after c a)
 
     miss : get_or s.words k 0 ≢ 0 → F (get_or s.words k 0)
-    miss ne = (failing v k (get_or s.words k 0), keeps, tt, kept_read p s k id (failing v k (get_or s.words k 0)) (same_words p s h id v (failing v k (get_or s.words k 0)) at refl refl refl refl refl refl refl refl refl (let f = h.fits id v at in record { plan = f.plan; floor = f.floor; logged = f.logged; ready = f.ready; idle = f.idle; share = f.share; above = f.above; spent = f.spent; halted = f.halted; held = f.held })), ((λ e. absurd (ne e)), λ _. (refl, λ own. let b = h.busy k lt ne in let same : b.1 ≡ v = one_view s.views b.0 id b.1 v b.2 at (h.names b.0 id b.1 v b.2 at b.6 some_part (sym b.5 ∙ own)) in off (sym idle ∙ sym (ap (λ (u : View). u.holds) same) ∙ b.3))))
+    miss ne = (failing v k (get_or s.words k 0), keeps, tt, kept_read p s k id (failing v k (get_or s.words k 0)) (same_words p s h id v (failing v k (get_or s.words k 0)) at refl refl refl refl refl refl refl refl refl (let f = h.fits id v at in record { plan = f.plan; floor = f.floor; logged = f.logged; ready = f.ready; idle = f.idle; share = f.share; above = f.above; spent = f.spent; late = f.late; halted = f.halted; held = f.held })), ((λ e. absurd (ne e)), λ _. (refl, λ own. let b = h.busy k lt ne in let same : b.1 ≡ v = one_view s.views b.0 id b.1 v b.2 at (h.names b.0 id b.1 v b.2 at b.6 some_part (sym b.5 ∙ own)) in off (sym idle ∙ sym (ap (λ (u : View). u.holds) same) ∙ b.3))))
 
     hit : get_or s.words k 0 ≡ 0 → F v.name
     hit e =
@@ -116,7 +120,7 @@ takes_lock p id k v c lt idle named some_part s h len at fit = exchanged (get_or
         let clock : get_or ws (p.stripes + 1) 0 ≡ get_or s.words (p.stripes + 1) 0 = get_or-set_other s.words k (p.stripes + 1) v.name 0 (λ q. omega arith) in
         let halt : get_or ws (p.stripes + 2) 0 ≡ get_or s.words (p.stripes + 2) 0 = get_or-set_other s.words k (p.stripes + 2) v.name 0 (λ q. omega arith) in
         let taken : (u : View) → Fits p s.words h.history u → u.holds ≡ true → u.stripe ≢ k = λ u g on is. let x = g.held on in let z = x.0 in let q : get_or s.words k 0 ≡ u.name = ap (λ i. get_or s.words i 0) (sym is) ∙ x.2 in omega arith in
-        let own : Fits p ws h.history w = record { plan = mine.plan; floor = mine.floor; logged = mine.logged; ready = mine.ready; idle = mine.idle; share = mine.share; above = mine.above; spent = λ on. let a = mine.spent on in omega arith; halted = λ on z. mine.halted on (sym halt ∙ z); held = λ on. (named, lt, get_or-set_same s.words k v.name 0 room, f.2) } in (
+        let own : Fits p ws h.history w = record { plan = mine.plan; floor = mine.floor; logged = mine.logged; ready = mine.ready; idle = mine.idle; share = mine.share; above = mine.above; spent = λ on. let a = mine.spent on in omega arith; late = let a = mine.late in omega arith; halted = λ on z. mine.halted on (sym halt ∙ z); held = λ on. (named, lt, get_or-set_same s.words k v.name 0 room, f.2) } in (
           w,
           takes k y,
           f.1,
@@ -156,7 +160,7 @@ looks p id v c some_part s h len at fit =
         keeps,
         tt,
         kept_read p s (p.stripes + 1) id w (kept_same p s h id v w at refl refl refl refl refl refl refl
-            record { plan = mine.plan; floor = mine.floor; logged = mine.logged; ready = omega arith; idle = mine.idle; share = mine.share; above = mine.above; spent = λ _. le; halted = mine.halted; held = mine.held }
+            record { plan = mine.plan; floor = mine.floor; logged = mine.logged; ready = omega arith; idle = mine.idle; share = mine.share; above = mine.above; spent = λ _. le; late = omega arith; halted = mine.halted; held = mine.held }
             (λ _. let a = total_set (λ u. u.ready) s.views id v w at in let b = h.bound in omega arith)),
         ((λ lt. absurd (omega arith)), λ _. refl),
       )
@@ -166,7 +170,7 @@ looks p id v c some_part s h len at fit =
             keeps,
             tt,
             kept_read p s (p.stripes + 1) id w (kept_same p s h id v w at refl refl refl refl refl refl refl
-                record { plan = mine.plan; floor = mine.floor; logged = mine.logged; ready = omega arith; idle = λ z. absurd (omega arith); share = mine.share; above = mine.above; spent = mine.spent; halted = mine.halted; held = mine.held }
+                record { plan = mine.plan; floor = mine.floor; logged = mine.logged; ready = omega arith; idle = λ z. absurd (omega arith); share = mine.share; above = mine.above; spent = mine.spent; late = mine.late; halted = mine.halted; held = mine.held }
                 (λ all. let a = total_le (λ u. u.ready) (λ u. u.parts) (set s.views id w) (λ j u e. (all j u e).ready) in let b = total_same (λ u. u.parts) s.views id v w at refl ∙ h.parts in omega arith)),
             ((λ _. refl), λ le. absurd (omega arith)),
           )
@@ -183,15 +187,15 @@ hears p id v c s h len at fit =
         keeps,
         tt,
         kept_read p s (p.stripes + 2) id w (same_words p s h id v w at refl refl refl refl refl refl refl refl refl
-            record { plan = mine.plan; floor = mine.floor; logged = mine.logged; ready = mine.ready; idle = mine.idle; share = mine.share; above = mine.above; spent = mine.spent; halted = mine.halted; held = mine.held }),
-        ((λ _. refl), λ nz. absurd (nz z)),
+            record { plan = mine.plan; floor = mine.floor; logged = mine.logged; ready = mine.ready; idle = mine.idle; share = mine.share; above = mine.above; spent = mine.spent; late = mine.late; halted = mine.halted; held = mine.held }),
+        ((λ _. (goes_on v.halted (λ on. mine.halted on z), refl)), λ nz. absurd (nz z)),
       )
       | no nz ↦ let w : View = as_halted v in (
         w,
         keeps,
         tt,
         kept_read p s (p.stripes + 2) id w (kept_same p s h id v w at refl refl refl refl refl refl refl
-            record { plan = mine.plan; floor = mine.floor; logged = mine.logged; ready = mine.ready; idle = mine.idle; share = mine.share; above = mine.above; spent = mine.spent; halted = λ _. nz; held = mine.held }
+            record { plan = mine.plan; floor = mine.floor; logged = mine.logged; ready = mine.ready; idle = mine.idle; share = mine.share; above = mine.above; spent = mine.spent; late = mine.late; halted = λ _. nz; held = mine.held }
             (λ _. let a = total_same (λ u. u.ready) s.views id v w at refl in let b = h.bound in omega arith)),
         ((λ z. absurd (nz z)), λ _. refl),
       )
@@ -205,7 +209,7 @@ halts p id v c stop s h len at fit =
     let else : (k : ℕ) → k < p.stripes + 2 → get_or ws k 0 ≡ get_or s.words k 0 = λ k lt. get_or-set_other s.words (p.stripes + 2) k 1 0 (λ q. omega arith) in
     let clock = else (p.stripes + 1) (omega arith) in
     let w : View = halting v in
-    let fit_all : (u : View) → Fits p s.words h.history u → Fits p ws h.history u = λ u f. record { plan = f.plan; floor = f.floor; logged = f.logged; ready = f.ready; idle = f.idle; share = f.share; above = f.above; spent = λ on. let a = f.spent on in omega arith; halted = λ _ z. omega arith; held = λ on. let x = f.held on in (x.0, x.1, else u.stripe (let l = x.1 in omega arith) ∙ x.2, x.3) } in
+    let fit_all : (u : View) → Fits p s.words h.history u → Fits p ws h.history u = λ u f. record { plan = f.plan; floor = f.floor; logged = f.logged; ready = f.ready; idle = f.idle; share = f.share; above = f.above; spent = λ on. let a = f.spent on in omega arith; late = let a = f.late in omega arith; halted = λ _ z. omega arith; held = λ on. let x = f.held on in (x.0, x.1, else u.stripe (let l = x.1 in omega arith) ∙ x.2, x.3) } in
     let f = fit_all v (h.fits id v at) in (
       w,
       keeps,
@@ -215,7 +219,7 @@ halts p id v c stop s h len at fit =
         counted = let a = h.counted in omega arith;
         legal = h.legal;
         tickets = λ t. subst (λ m. (t < length h.history → m ≡ 1) × (length h.history ≤ t → m ≡ 0)) (sym (total_same (λ u. times t u.log) s.views id v w at refl)) (h.tickets t);
-        fits = fits_all p ws h.history s.views id w (λ j u ne e. fit_all u (h.fits j u e)) record { plan = f.plan; floor = f.floor; logged = f.logged; ready = f.ready; idle = f.idle; share = f.share; above = f.above; spent = f.spent; halted = λ _ z. omega arith; held = f.held };
+        fits = fits_all p ws h.history s.views id w (λ j u ne e. fit_all u (h.fits j u e)) record { plan = f.plan; floor = f.floor; logged = f.logged; ready = f.ready; idle = f.idle; share = f.share; above = f.above; spent = f.spent; late = f.late; halted = λ _ z. omega arith; held = f.held };
         parts = total_same (λ u. u.parts) s.views id v w at refl ∙ h.parts;
         bound = let a = total_same (λ u. u.ready) s.views id v w at refl in let b = h.bound in omega arith;
         alone = alone_all s.views id w h.alone (λ j u ne e on on' is. ne (sym (h.alone id j v u at e on on' is)));
@@ -301,7 +305,7 @@ draws p id v c e y small some_part ready own serves s h len at fit = subst F (sy
         legal = h.legal;
         tickets = λ t. subst (λ m. (t < length h.history → m ≡ 1) × (length h.history ≤ t → m ≡ 0)) (sym (total_same (λ u. times t u.log) s.views id v w at refl)) (h.tickets t);
         fits = fits_all p ws h.history s.views id w (λ j u ne q. let g = h.fits j u q in fits_still p s.words ws h.history u later halt (λ held. lock u.stripe (g.held held).1) g)
-            record { plan = mine.plan; floor = mine.floor; logged = mine.logged; ready = omega arith; idle = mine.idle; share = mine.share; above = mine.above; spent = λ _. let a = here in omega arith; halted = λ on' z. mine.halted on' (sym halt ∙ z); held = λ held. let x = mine.held held in (x.0, x.1, lock v.stripe x.1 ∙ x.2, x.3) };
+            record { plan = mine.plan; floor = mine.floor; logged = mine.logged; ready = omega arith; idle = mine.idle; share = mine.share; above = mine.above; spent = λ _. let a = here in omega arith; late = later; halted = λ on' z. mine.halted on' (sym halt ∙ z); held = λ held. let x = mine.held held in (x.0, x.1, lock v.stripe x.1 ∙ x.2, x.3) };
         parts = total_same (λ u. u.parts) s.views id v w at refl ∙ h.parts;
         bound = less_ready w refl;
         alone = alone_all s.views id w h.alone (λ j u ne q on on' is. ne (sym (h.alone id j v u at q on on' is)));
@@ -342,6 +346,7 @@ draws p id v c e y small some_part ready own serves s h len at fit = subst F (sy
                   logged = logged_more h.history e u.log g.logged;
                   ready = g.ready;
                   spent = λ on'. let a = g.spent on' in let b = later in omega arith;
+                  late = let a = g.late in let b = later in omega arith;
                   halted = λ on' z. g.halted on' (sym halt ∙ z);
                   idle = g.idle;
                   share = g.share;
@@ -354,6 +359,7 @@ draws p id v c e y small some_part ready own serves s h len at fit = subst F (sy
                   logged = logged_new h.history e r v.log now mine.logged;
                   ready = omega arith;
                   spent = λ on'. let a = mine.spent on' in let b = later in omega arith;
+                  late = let a = mine.late in let b = later in omega arith;
                   halted = λ on' z. mine.halted on' (sym halt ∙ z);
                   idle = λ z. absurd (omega arith);
                   share = mine.share;
@@ -388,7 +394,7 @@ gives_back p id k v y lt on is cells s h len at fit =
     let held = mine.held on in
     let clock : get_or ws (p.stripes + 1) 0 ≡ get_or s.words (p.stripes + 1) 0 = get_or-set_other s.words k (p.stripes + 1) 0 0 (λ q. omega arith) in
     let halt : get_or ws (p.stripes + 2) 0 ≡ get_or s.words (p.stripes + 2) 0 = get_or-set_other s.words k (p.stripes + 2) 0 0 (λ q. omega arith) in
-    let own : Fits p ws h.history w = record { plan = mine.plan; floor = mine.floor; logged = mine.logged; ready = mine.ready; idle = mine.idle; share = mine.share; above = mine.above; spent = λ on. let a = mine.spent on in omega arith; halted = λ on z. mine.halted on (sym halt ∙ z); held = λ no. absurd (off no) } in (
+    let own : Fits p ws h.history w = record { plan = mine.plan; floor = mine.floor; logged = mine.logged; ready = mine.ready; idle = mine.idle; share = mine.share; above = mine.above; spent = λ on. let a = mine.spent on in omega arith; late = let a = mine.late in omega arith; halted = λ on z. mine.halted on (sym halt ∙ z); held = λ no. absurd (off no) } in (
       w,
       gives,
       tt,

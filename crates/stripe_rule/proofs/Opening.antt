@@ -33,7 +33,7 @@ opens p ws xs size zeros blank = record {
 }
   where
     one : (id : ℕ) (v : View) → get_elem? (root p ∷ []) id ≡ some v → Fits p ws [] v
-    one zero v e = subst (Fits p ws []) (some-injective (root p) v e) record { plan = λ _. refl; floor = omega arith; logged = tt; ready = omega arith; idle = λ z. refl; share = record { are = tt; shallow = λ c h. absurd h; rest = λ _. refl }; above = tt; spent = λ on. absurd (off on); halted = λ on. absurd (off on); held = λ on. absurd (off on) }
+    one zero v e = subst (Fits p ws []) (some-injective (root p) v e) record { plan = λ _. refl; floor = omega arith; logged = tt; ready = omega arith; idle = λ z. refl; share = record { are = tt; shallow = λ c h. absurd h; rest = λ _. refl }; above = tt; spent = λ on. absurd (off on); late = omega arith; halted = λ on. absurd (off on); held = λ on. absurd (off on) }
     one (suc id) v e = absurd (some-ne-none v (sym e))
 
     first : (id : ℕ) (v : View) → get_elem? (root p ∷ []) id ≡ some v → id ≡ 0

@@ -32,8 +32,8 @@ splits p id v name some_part named shallow low high new s h at =
     let less : share_of v.name < v.parts = shares_left v.name v.parts v.kids shallow some_part mine.share (omega (arith, few)) in
     let vs : List View = set s.views id l in
     let sum : (f : View → ℕ) → total f (vs ++ r ∷ []) + f v ≡ total f s.views + f l + f r = λ f. let a = total_set f s.views id v l at in let b = total_snoc f vs r in omega arith in
-    let left : Fits p s.words h.history l = record { plan = λ some_part. mine.plan (omega arith); floor = mine.floor; logged = mine.logged; ready = omega arith; idle = λ z. mine.idle (omega arith); above = mine.above; share = record { are = kids; shallow = λ _ _. shallow; rest = λ _. share_cut v.parts (share_of v.name) (length v.kids) (whole_of v.name) less (mine.share.rest some_part) }; spent = mine.spent; halted = mine.halted; held = mine.held } in
-    let right : Fits p s.words h.history r = record { plan = λ some_part. mine.plan (omega arith); floor = let a = mine.floor in let b = past_below (length h.history) v.log (logged_below h.history v.log mine.logged) in omega arith; logged = tt; ready = omega arith; idle = λ z. refl; above = tt; share = record { are = tt; shallow = λ c h. absurd h; rest = λ _. (let whole = branch_whole v.name name named shallow low high in omega (arith, whole)) }; spent = λ on. absurd (off on); halted = λ on. absurd (off on); held = λ on. absurd (off on) } in
+    let left : Fits p s.words h.history l = record { plan = λ some_part. mine.plan (omega arith); floor = mine.floor; logged = mine.logged; ready = omega arith; idle = λ z. mine.idle (omega arith); above = mine.above; share = record { are = kids; shallow = λ _ _. shallow; rest = λ _. share_cut v.parts (share_of v.name) (length v.kids) (whole_of v.name) less (mine.share.rest some_part) }; spent = mine.spent; late = mine.late; halted = mine.halted; held = mine.held } in
+    let right : Fits p s.words h.history r = record { plan = λ some_part. mine.plan (omega arith); floor = let a = mine.floor in let b = past_below (length h.history) v.log (logged_below h.history v.log mine.logged) in omega arith; logged = tt; ready = omega arith; idle = λ z. refl; above = tt; share = record { are = tt; shallow = λ c h. absurd h; rest = λ _. (let whole = branch_whole v.name name named shallow low high in omega (arith, whole)) }; spent = λ on. absurd (off on); late = omega arith; halted = λ on. absurd (off on); held = λ on. absurd (off on) } in
     let live : 0 < v.parts → 0 < l.parts = λ x. omega arith in
     let last : get_elem? (vs ++ r ∷ []) (length vs) ≡ some r = at_last vs r (length vs) refl in
     let lift : (c low : ℕ) → Parented vs c low → Parented (vs ++ r ∷ []) c low = λ c low f. (f.0, f.1, at_longer vs (r ∷ []) f.0 f.1 f.2, f.3, f.4, f.5, f.6, f.7) in
@@ -116,8 +116,8 @@ joins p id v other w some_part their_part named is_kid free no_kids s h at ne at
     let me : f.1.name ≡ v.name = (let a = range.0 in let b = range.1 in omega (arith, lo, hi, a, b)) in
     let same = ap (λ (u : View). u.floor) (one_view s.views f.0 id f.1 v f.2 at (h.names f.0 id f.1 v f.2 at f.3 some_part me)) in
     omega (arith, above, same)) in
-    let both : Fits p s.words h.history b = record { plan = λ _. mine.plan some_part; floor = mine.floor; logged = logged_merge h.history v.log w.log mine.logged theirs.logged; ready = omega arith; idle = λ z. absurd (omega arith); share = shared; above = from_merge v.floor w.floor v.log w.log under mine.above theirs.above; spent = λ on. either_on v.spent w.spent mine.spent theirs.spent on; halted = λ on. either_on v.halted w.halted mine.halted theirs.halted on; held = mine.held } in
-    let none_left : Fits p s.words h.history nobody = record { plan = λ z. absurd (omega arith); floor = omega arith; logged = tt; ready = omega arith; idle = λ z. refl; above = tt; share = record { are = tt; shallow = λ c h. absurd h; rest = λ z. absurd (omega arith) }; spent = λ on. absurd (off on); halted = λ on. absurd (off on); held = λ on. absurd (off on) } in
+    let both : Fits p s.words h.history b = record { plan = λ _. mine.plan some_part; floor = mine.floor; logged = logged_merge h.history v.log w.log mine.logged theirs.logged; ready = omega arith; idle = λ z. absurd (omega arith); share = shared; above = from_merge v.floor w.floor v.log w.log under mine.above theirs.above; late = mine.late; spent = λ on. either_on v.spent w.spent mine.spent theirs.spent on; halted = λ on. either_on v.halted w.halted mine.halted theirs.halted on; held = mine.held } in
+    let none_left : Fits p s.words h.history nobody = record { plan = λ z. absurd (omega arith); floor = omega arith; logged = tt; ready = omega arith; idle = λ z. refl; above = tt; share = record { are = tt; shallow = λ c h. absurd h; rest = λ z. absurd (omega arith) }; spent = λ on. absurd (off on); late = omega arith; halted = λ on. absurd (off on); held = λ on. absurd (off on) } in
     let names : Names vs = names_all s.views id v b at h.names (λ _. refl) (λ _. some_part) in
     let other_name : (i : ℕ) (x : View) → get_elem? vs i ≡ some x → 0 < x.parts → i ≢ other → x.name ≢ w.name = λ i x e on apart is. apart (names i other x w e at' on their_part is) in
     -- a parent of a name that is not w's is there still

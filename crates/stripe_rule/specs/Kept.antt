@@ -23,6 +23,8 @@ pub record Fits (p : Terms) (words : List ℕ) (h : List Entry) (v : View) : Typ
   pub ready : v.ready ≤ v.parts
   pub idle : v.parts ≡ 0 → v.log ≡ []
   pub share : IsShared v.name v.parts v.kids
+  -- no ticket that was told as too late is still to come
+  pub late : v.notes.last_spent ≤ slice_index words (p.stripes + 1)
   -- once spent the clock is at the budget, and once halted the halt word is set
   pub spent : v.spent ≡ true → p.budget ≤ slice_index words (p.stripes + 1)
   pub halted : v.halted ≡ true → slice_index words (p.stripes + 2) ≢ 0

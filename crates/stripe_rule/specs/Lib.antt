@@ -2,6 +2,7 @@ pub mod Terms
 pub mod Locks
 pub mod Holds
 pub mod Kids
+pub mod Branches
 pub mod Views
 pub mod Kept
 pub mod Steps

@@ -1,5 +1,5 @@
 -- What each kind of step tells: m is the pass before, n the pass after, and r the word found.
-use Rattle.std.specs.Prelude.{◌≡◌, ◌≢◌, ℕ, ◌+◌, ◌<◌, ◌≤◌, true, List, [], ◌∷◌}
+use Rattle.std.specs.Prelude.{◌≡◌, ◌≢◌, ℕ, ◌+◌, ◌<◌, ◌≤◌, true, false, List, [], ◌∷◌}
 use Rattle.atomic_table.specs.Table.{Step, Me}
 use Rattle.tac_ir.specs.declared.run.Entry.{Entry}
 use Rattle.stripe_rule.specs.declared.plan.Terms.{Terms}
@@ -27,8 +27,9 @@ Draws e y s m r n = (r < m.0.plan.budget → (n ≡ (drawn m.0 r e y, m.1)) × A
 abbrev pub Tells : Step Content → Me Content View → ℕ → Me Content View → Type 0
 Tells s m r n = (n ≡ m) × ((t : ℕ) → times t m.0.log ≤ 1) × AllFrom m.0.floor m.0.log × IsShared m.0.name m.0.parts m.0.kids
 
+-- a halt word of 0 tells that the pass was not halted
 abbrev pub Hears : Step Content → Me Content View → ℕ → Me Content View → Type 0
-Hears s m r n = (r ≡ 0 → n ≡ (as_asked m.0, m.1)) × (r ≢ 0 → n ≡ (as_halted m.0, m.1))
+Hears s m r n = (r ≡ 0 → (m.0.halted ≡ false) × (n ≡ (as_asked m.0, m.1))) × (r ≢ 0 → n ≡ (as_halted m.0, m.1))
 
 abbrev pub Halts : Step Content → Me Content View → ℕ → Me Content View → Type 0
 Halts s m r n = n ≡ (halting m.0, m.1)

@@ -9,7 +9,7 @@ mod rule;
 mod view;
 
 pub use content::Content;
-pub use law::{a_close_tells_the_log, steps_keep_the_rule};
+pub use law::{a_close_tells_the_log, branches_of_a_pass, steps_keep_the_rule};
 pub use plan::{Plan, Terms};
 pub use rule::{Draw, Drawn, Fork, Give, Halt, Hear, Law, Look, Merge, Named, Take, Tell};
 pub use view::{Notes, View};

@@ -1,6 +1,4 @@
-pub mod Accesses
 pub mod Closing
 pub mod Joining
-pub mod Opening
 pub mod Pushing
 pub mod Splitting

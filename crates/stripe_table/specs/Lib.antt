@@ -1,4 +1,4 @@
-pub mod Carried
 pub mod Passes
 pub mod Calls
+pub mod Tries
 pub mod Opened

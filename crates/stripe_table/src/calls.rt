@@ -1,11 +1,11 @@
-ghost use Rattle.std.specs.Prelude.{◌≡◌, ◌≢◌, ◌+◌, ◌<◌, ◌≤◌, ℕ, IfOk, IfErr, None, Some};
-ghost use Rattle.stripe_rule.specs.Terms.{terms_of};
+ghost use Rattle.std.specs.Prelude.{◌≡◌, ◌≢◌, ◌+◌, ◌<◌, ◌≤◌, false, IfOk, IfErr, None, Some};
 ghost use Rattle.stripe_rule.specs.Locks.{lock_of};
 ghost use Rattle.stripe_rule.specs.Views.{holding, failing, freed, looked, as_asked, drawn};
 ghost use Rattle.stripe_rule.specs.Serving.{IsTick};
 ghost use Rattle.stripe_rule.specs.tools.Logs.{AllBelow};
-ghost use Rattle.stripe_table.specs.Passes.{knows, IsPassOf, IsStep};
-ghost use Rattle.stripe_table.specs.Calls.{IsAccess, IsKind, IsEntered, Excused, noted, Unticked, ticked, entry_by};
+ghost use Rattle.stripe_events.specs.Accesses.{IsAccess, IsKind};
+ghost use Rattle.stripe_table.specs.Passes.{knows, IsPassOf, IsStep, plan_of};
+ghost use Rattle.stripe_table.specs.Calls.{IsEntered, Excused, WasGoing, noted, Unticked, WasTicking, ticked, entry_by};
 
 use crate::fault::{Busy, TickFault, TryFault};
 use crate::memory::SharedMem;
@@ -22,7 +22,7 @@ impl<'m> SharedMem<'m> {
     pub fn try_hold(&self, pass: &mut Pass, stripe: u32) -> Result<(), Busy>
         requires pass { IsPassOf self.now pass.old }
         requires free { pass.old.held ≡ None }
-        requires stripe { stripe ≤ self.now.plan.stripes }
+        requires stripe { stripe ≤ (plan_of self.now).stripes }
         ensures same { IsStep pass.old pass.new × (pass.new.log ≡ pass.old.log) }
         ensures holds { IfOk result (λ _. (pass.new.held ≡ Some stripe) × (knows pass.new ≡ holding (knows pass.old) stripe (knows pass.new).content)) }
         ensures busy { IfErr result (λ busy. (pass.new.held ≡ None) × (knows pass.new ≡ failing (knows pass.old) stripe busy.holder.0) × (busy.stripe ≡ stripe) × (busy.holder.0 ≢ 0) × (busy.holder.0 ≢ pass.old.name)) }
@@ -33,7 +33,7 @@ impl<'m> SharedMem<'m> {
             held,
             ..
         } = pass;
-        let found = self.take(seat, stripe as usize, *name);
+        let found = self.steps.take(seat, stripe as usize, *name);
         if found != 0 {
             return Err(Busy {
                 stripe,
@@ -53,24 +53,25 @@ impl<'m> SharedMem<'m> {
     {
         let Pass { seat, held, .. } = pass;
         if let Some(stripe) = *held {
-            self.give(seat, stripe as usize);
+            self.steps.give(seat, stripe as usize);
             *held = None;
         }
     }
 
-    /// One read or write of a word of memory.
+    /// One event that the memory serves: a read or write of a word of memory, or one of the heap or the input.
     pub fn try_access(&self, pass: &mut Pass, point: Point, op: &Op) -> Result<Entry, TryFault>
         requires pass { IsPassOf self.now pass.old }
         requires free { pass.old.held ≡ None }
         requires spare { 0 < pass.old.log.spare }
-        requires access { IsAccess (terms_of self.now.plan) op.now }
+        requires access { IsAccess (plan_of self.now) op.now }
         ensures same { IsStep pass.old pass.new × (pass.new.held ≡ None) }
         ensures entry { IfOk result (λ e. (e ≡ entry_by pass.old.name point op.now e.answer) × IsKind op.now e.answer) }
-        ensures ok { IfOk result (λ e. IsEntered self.now.plan.budget (knows pass.old) (knows pass.new) pass.old.log pass.new.log e) }
-        ensures err { IfErr result (λ fault. (pass.new.log ≡ pass.old.log) × (knows pass.new ≡ noted (lock_of (terms_of self.now.plan) op.now) fault (knows pass.old))) }
-        ensures cause { IfErr result (λ fault. Excused pass.old.name (lock_of (terms_of self.now.plan) op.now) self.now.plan.budget fault) }
+        ensures ok { IfOk result (λ e. IsEntered (plan_of self.now).budget (knows pass.old) (knows pass.new) pass.old.log pass.new.log e) }
+        ensures err { IfErr result (λ fault. (pass.new.log ≡ pass.old.log) × (knows pass.new ≡ noted (lock_of (plan_of self.now) op.now) fault (knows pass.old))) }
+        ensures cause { IfErr result (λ fault. Excused op.now pass.old.name (lock_of (plan_of self.now) op.now) (plan_of self.now).budget fault) }
+        ensures going { IfErr result (λ fault. WasGoing (knows pass.old) fault) }
     {
-        let lock = self.lock_of_access(*op);
+        let lock = self.lock_of(*op);
         let Pass {
             seat,
             name,
@@ -83,35 +84,38 @@ impl<'m> SharedMem<'m> {
         Ok(stamped.entry)
     }
 
-    // The lock of the word of an access.
-    fn lock_of_access(&self, op: Op) -> usize
-        requires access { IsAccess (terms_of self.now.plan) op }
-        ensures lock { result ≡ lock_of (terms_of self.now.plan) op }
-        ensures below { result < self.now.plan.stripes }
+    // The lock of an event.
+    fn lock_of(&self, op: Op) -> usize
+        requires access { IsAccess (plan_of self.now) op }
+        ensures lock { result ≡ lock_of (plan_of self.now) op }
+        ensures below { result < (plan_of self.now).stripes + 1 }
     {
+        let stripes = self.steps.plan.stripes;
         match op {
-            Op::Read { word, .. } | Op::Write { word, .. } => word as usize % self.plan.stripes,
+            Op::Read { word, .. } | Op::Write { word, .. } => word as usize % stripes,
+            Op::New { .. } | Op::Free { .. } | Op::In | Op::Left => stripes,
             _ => unreachable!(),
         }
     }
 
     // Draws a ticket for an event that needs no lock.
     fn count(&self, seat: &mut Seat<Content, View>, entry: Entry) -> Result<u64, TickFault>
-        requires table { (seat.old.table_id ≡ self.now.table.shared.table_id) × (seat.old.me.0.plan ≡ terms_of self.now.plan) × (0 < seat.old.me.0.parts) × (seat.old.me.0.ready ≡ 0) }
-        requires tick { IsTick (terms_of self.now.plan) entry.op entry.answer }
+        requires table { (seat.old.table_id ≡ self.now.steps.table.shared.table_id) × (seat.old.me.0.plan ≡ plan_of self.now) × (0 < seat.old.me.0.parts) × (seat.old.me.0.ready ≡ 0) }
+        requires tick { IsTick (plan_of self.now) entry.op entry.answer }
         ensures table { (seat.new.table_id ≡ seat.old.table_id) × (seat.new.id ≡ seat.old.id) }
-        ensures ok { IfOk result (λ t. (seat.new.me ≡ (drawn (looked (as_asked seat.old.me.0)) t entry seat.old.me.0.content, seat.old.me.1)) × AllBelow t seat.old.me.0.log × (seat.old.me.0.floor ≤ t) × (t < self.now.plan.budget)) }
-        ensures err { IfErr result (λ fault. (seat.new.me ≡ (ticked fault seat.old.me.0, seat.old.me.1)) × Unticked self.now.plan.budget fault) }
+        ensures ok { IfOk result (λ t. (seat.new.me ≡ (drawn (looked (as_asked seat.old.me.0)) t entry seat.old.me.0.content, seat.old.me.1)) × AllBelow t seat.old.me.0.log × (seat.old.me.0.floor ≤ t) × (t < (plan_of self.now).budget)) }
+        ensures going { IfOk result (λ _. seat.old.me.0.halted ≡ false) }
+        ensures err { IfErr result (λ fault. (seat.new.me ≡ (ticked fault seat.old.me.0, seat.old.me.1)) × Unticked (plan_of self.now).budget fault × WasTicking seat.old.me.0 fault) }
     {
-        if self.hear(seat) != 0 {
+        if self.steps.hear(seat) != 0 {
             return Err(TickFault::Halted);
         }
-        let seen = self.look(seat);
-        if seen >= self.plan.budget {
+        let seen = self.steps.look(seat);
+        if seen >= self.steps.plan.budget {
             return Err(TickFault::Spent { ticket: seen });
         }
-        let ticket = self.draw::<Brand>(seat, entry);
-        if ticket >= self.plan.budget {
+        let ticket = self.steps.draw::<Brand>(seat, entry);
+        if ticket >= self.steps.plan.budget {
             return Err(TickFault::Spent { ticket });
         }
         Ok(ticket)
@@ -127,12 +131,13 @@ impl<'m> SharedMem<'m> {
     ) -> Result<Entry, TickFault>
         requires pass { IsPassOf self.now pass.old }
         requires spare { 0 < pass.old.log.spare }
-        requires tick { IsTick (terms_of self.now.plan) op.now answer }
+        requires tick { IsTick (plan_of self.now) op.now answer }
         ensures same { IsStep pass.old pass.new × (pass.new.held ≡ pass.old.held) }
         ensures entry { IfOk result (λ e. e ≡ entry_by pass.old.name point op.now answer) }
-        ensures ok { IfOk result (λ e. IsEntered self.now.plan.budget (knows pass.old) (knows pass.new) pass.old.log pass.new.log e) }
+        ensures ok { IfOk result (λ e. IsEntered (plan_of self.now).budget (knows pass.old) (knows pass.new) pass.old.log pass.new.log e) }
         ensures err { IfErr result (λ fault. (pass.new.log ≡ pass.old.log) × (knows pass.new ≡ ticked fault (knows pass.old))) }
-        ensures cause { IfErr result (λ fault. Unticked self.now.plan.budget fault) }
+        ensures cause { IfErr result (λ fault. Unticked (plan_of self.now).budget fault) }
+        ensures going { IfErr result (λ fault. WasTicking (knows pass.old) fault) }
     {
         let Pass {
             seat,

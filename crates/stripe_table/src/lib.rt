@@ -8,11 +8,10 @@ mod fault;
 mod memory;
 mod open;
 mod pass;
-mod serve;
-mod steps;
+mod retry;
 mod tree;
 
-pub use close::Closed;
-pub use fault::{Busy, TickFault, TryFault};
+pub use close::{Closed, Ran};
+pub use fault::{AccessFault, Busy, TickFault, TryFault};
 pub use memory::SharedMem;
 pub use pass::Pass;

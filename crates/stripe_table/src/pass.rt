@@ -1,7 +1,7 @@
 ghost use Rattle.std.specs.Prelude.{◌≡◌, ◌<◌, ◌≤◌, ℕ, [], All, None, Some, false, reverse, max, OnOk, OnErr};
 ghost use Rattle.guest_log.specs.declared.stamped.Stamped.{Stamped};
 ghost use Rattle.stripe_rule.specs.Views.{nothing};
-ghost use Rattle.stripe_table.specs.Carried.{Carries};
+ghost use Rattle.stripe_steps.specs.Carried.{Carries};
 
 use atomic_table::Seat;
 use dfi_base::{Memory, Name};

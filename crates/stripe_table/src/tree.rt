@@ -26,8 +26,8 @@ impl<'m> SharedMem<'m> {
         ensures floor { All (λ (s : Stamped). s.ticket < (knows result).floor) pass.old.log.items }
     {
         let name = 16 * pass.name + i as u64;
-        let _ = self.tell(&mut pass.seat);
-        let seat = self.cut::<Brand>(&mut pass.seat, name);
+        let _ = self.steps.tell(&mut pass.seat);
+        let seat = self.steps.cut::<Brand>(&mut pass.seat, name);
         Pass {
             seat,
             name,
@@ -53,8 +53,8 @@ impl<'m> SharedMem<'m> {
             log: theirs,
             ..
         } = child;
-        self.unite(seat, other);
-        let _ = self.tell(seat);
+        self.steps.unite(seat, other);
+        let _ = self.steps.tell(seat);
         log.merge(theirs);
     }
 }

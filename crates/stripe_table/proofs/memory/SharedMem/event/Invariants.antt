@@ -1,6 +1,6 @@
 use Rattle.stripe_rule.specs.Terms.{terms_of}
 use Rattle.stripe_rule.specs.Serving.{content_after}
-use Rattle.stripe_table.specs.Carried.{front}
+use Rattle.stripe_steps.specs.Carried.{front}
 use Rattle.stripe_table.proofs.memory.SharedMem.event.Given as goal
 
 abbrev pub ghosts-draw : goal.ghosts-draw

@@ -13,6 +13,7 @@ push-requires-clause-newest c = older c.in_ok-ticket.ticket c.args.pass.now.log.
 pub returns-clause-ok : goal.returns-clause-ok
 returns-clause-ok c =
     let ok = c.in_ok-ticket.ensures.ok in record {
+      going = c.in_ok-ticket.ensures.going;
       ticket = c.in_ok-ticket.ticket;
       logged = c.push.ensures;
       greatest = older c.in_ok-ticket.ticket c.args.pass.now.log.items c.args.pass.now.seat.me.0.log c.args.pass.now.logged ok.1;

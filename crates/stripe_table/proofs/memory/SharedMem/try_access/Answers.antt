@@ -14,6 +14,7 @@ push-requires-clause-newest c =
 pub returns-clause-ok : goal.returns-clause-ok
 returns-clause-ok c =
     let ok = c.in_ok-stamped.ensures.ok in record {
+      going = c.in_ok-stamped.ensures.going;
       ticket = c.in_ok-stamped.stamped.ticket;
       logged = c.push.ensures;
       greatest = older c.in_ok-stamped.stamped.ticket c.args.pass.now.log.items c.args.pass.now.seat.me.0.log c.args.pass.now.logged ok.3;

@@ -1,0 +1,3 @@
+pub mod Tables
+pub mod Accesses
+pub mod Prepared
