@@ -1,0 +1,14 @@
+pub mod Seeing
+pub mod Valid
+pub mod Firsts
+pub mod Steady
+pub mod OneStep
+pub mod One
+pub mod Runs
+pub mod Sharing
+pub mod Ending
+pub mod OpenCalls
+pub mod Aging
+pub mod MadeFor
+pub mod GoingOn
+pub mod Fresh

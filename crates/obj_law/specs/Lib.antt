@@ -1,0 +1,4 @@
+pub mod Did
+pub mod Frames
+pub mod Going
+pub mod Laws
