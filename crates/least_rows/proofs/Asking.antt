@@ -1,18 +1,18 @@
 -- What rules ask for in a table and in a greater one. (Exported.)
-use Rattle.std.proofs.Common.{◌≡◌, ℕ, zero, suc, ◌<◌, Bool, true, false, Option, Some, None, List, [], ◌∷◌, length, refl, sym, ap, ◌∙◌, subst, IsTrue, Contains, inl, inr, ◌⊎◌, arith}
+use Rattle.std.proofs.Common.{◌≡◌, ℕ, ◌<◌, List, [], ◌∷◌, length, refl, sym, subst, IsTrue, Contains, inl, inr, arith}
 use Rattle.dfi_base.specs.Bits.{has}
 use Rattle.least_rows.specs.declared.rules.Rule.{Rule}
 use Rattle.least_rows.specs.declared.rules.System.{System}
 use Rattle.least_rows.specs.Rules.{Table, row_of, row_has, Asks, IsClosed}
 use Rattle.least_rows.specs.Derived.{Derived}
-use Rattle.least_rows.specs.Derived.Derived.{given, owned, flows, meets, guards, stores, loads}
+use Rattle.least_rows.specs.Derived.Derived.{owned, flows, shifts, meets, guards, stores, loads}
 use Rattle.least_rows.specs.Solutions.{IsAbove}
-use Rattle.least_rows.specs.tools.Reads.{reads_of, LoadsFrom, Reads}
+use Rattle.least_rows.specs.tools.Reads.{LoadsFrom, Reads}
 
 pub first_one : (x : ℕ) (xs : List ℕ) → Contains (x ∷ xs) x
 first_one x xs = (0, omega arith, refl)
 
-second_one : (x y : ℕ) (xs : List ℕ) → Contains (x ∷ y ∷ xs) y
+pub second_one : (x y : ℕ) (xs : List ℕ) → Contains (x ∷ y ∷ xs) y
 second_one x y xs = (1, omega arith, refl)
 
 -- what is asked of a table that has only what is derived is derived
@@ -22,6 +22,10 @@ asked_derived s start t (Rule.Has row member) one long sound r k asks =
     subst (λ x. Derived s start x k) (sym asks.0) (subst (λ x. Derived s start row x) (sym asks.1) (owned row member one))
 asked_derived s start t (Rule.Flow from mask to) one long sound r k asks =
     subst (λ x. Derived s start x k) (sym asks.0) (flows from to k mask one (sound from k asks.1) asks.2)
+asked_derived s start t (Rule.Shift from mask by to) one long sound r k asks =
+    let n = asks.2.0 in
+    subst (λ x. Derived s start x k) (sym asks.0) (subst (λ x. Derived s start to x) (sym asks.2.1)
+    (shifts from to mask by n one (subst (λ x. x < s.width) asks.2.1 asks.1) (sound from n asks.2.2) asks.2.3))
 asked_derived s start t (Rule.Meet first rest to) one long sound r k asks =
     subst (λ x. Derived s start x k) (sym asks.0) (meets first to k rest one (λ from among. sound from k (asks.1 from among)))
 asked_derived s start t (Rule.Guard test member from to) one long sound r k asks =
@@ -42,6 +46,8 @@ same_asks s t u rule long same r k asks = by rule same asks
     by : (rule : Rule) → ((x : ℕ) → Reads t rule x → row_of u x ≡ row_of t x) → Asks s u rule r k → Asks s t rule r k
     by (Rule.Has row member) same asks = asks
     by (Rule.Flow from mask to) same asks = (asks.0, back from k (same from (inl (first_one from []))) asks.1, asks.2)
+    by (Rule.Shift from mask far to) same asks =
+        (asks.0, asks.1, (asks.2.0, asks.2.1, back from asks.2.0 (same from (inl (first_one from []))) asks.2.2, asks.2.3))
     by (Rule.Meet first rest to) same asks = (asks.0, λ from among. back from k (same from (inl among)) (asks.1 from among))
     by (Rule.Guard test member from to) same asks = (
       asks.0,
@@ -69,6 +75,7 @@ reads_more t u rule above x (inr through) = inr (by rule through)
     by : (rule : Rule) → LoadsFrom t rule x → LoadsFrom u rule x
     by (Rule.Has row member) none = absurd none
     by (Rule.Flow from mask to) none = absurd none
+    by (Rule.Shift from mask far to) none = absurd none
     by (Rule.Meet first rest to) none = absurd none
     by (Rule.Guard test member from to) none = absurd none
     by (Rule.Store targets from) none = absurd none

@@ -1,6 +1,5 @@
 -- What is gathered from the rows of a table, a row at a time.
 use Rattle.std.proofs.Common.{◌≡◌, ℕ, zero, suc, ◌+◌, ◌<◌, ◌≤◌, Bool, true, false, ◌&&◌, ◌||◌, Some, List, [], ◌∷◌, ◌++◌, length, get_or, set, take, refl, sym, ap, ◌∙◌, subst, IsTrue, Contains, inl, inr, ◌⊎◌, ◌↔◌, arith, true≢false}
-use Rattle.std.proofs.lemmas.Bool.{cases_eq}
 use Rattle.std.proofs.lemmas.List.{get_or-set_same, take_more}
 use Rattle.std.proofs.lemmas.List.Elements.{Contains-push, Contains-push_cases, Contains-append_left}
 use Rattle.std.specs.Prelude.{slice_get}
@@ -9,7 +8,7 @@ use Rattle.dfi_base.proofs.RowLaws.{and_parts}
 use Rattle.least_rows.specs.declared.rules.Rule.{Rule}
 use Rattle.least_rows.specs.declared.rules.System.{System}
 use Rattle.least_rows.specs.declared.index.Loading.{Loading}
-use Rattle.least_rows.specs.Rules.{Table, row_of, row_has, IsLoaded}
+use Rattle.least_rows.specs.Rules.{Table, row_of, row_has}
 use Rattle.least_rows.specs.tools.Reads.{LoadsFrom, Reads}
 use Rattle.least_rows.specs.tools.Growing.{IsIndexOf, IsWritten}
 
@@ -133,6 +132,7 @@ write_done s t waiting waking to more new lists loading changed index within is 
     by_load : (i : ℕ) (rule : Rule) → slice_get s.rules i ≡ Some rule → LoadsFrom (set t to new) rule to → IsTrue (has waking i)
     by_load i (Rule.Has row member) at none = absurd none
     by_load i (Rule.Flow from mask x) at none = absurd none
+    by_load i (Rule.Shift from mask far x) at none = absurd none
     by_load i (Rule.Meet first rest x) at none = absurd none
     by_load i (Rule.Guard test member from x) at none = absurd none
     by_load i (Rule.Store targets from) at none = absurd none

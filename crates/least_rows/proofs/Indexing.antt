@@ -1,5 +1,5 @@
 -- The index of readers and loads.
-use Rattle.std.proofs.Common.{◌≡◌, ℕ, zero, suc, ◌+◌, ◌<◌, ◌≤◌, Some, None, List, [], ◌∷◌, ◌++◌, length, get_or, set, take, refl, sym, ap, ap₂, ◌∙◌, subst, Contains, All, inl, inr, ◌⊎◌, arith}
+use Rattle.std.proofs.Common.{◌≡◌, ℕ, zero, suc, ◌+◌, ◌<◌, ◌≤◌, Some, None, List, [], ◌∷◌, ◌++◌, length, get_or, set, take, sym, ap, ap₂, ◌∙◌, subst, Contains, All, inl, inr, arith}
 use Rattle.std.proofs.lemmas.Bool.{cases_eq}
 use Rattle.std.proofs.lemmas.List.{get_or-set_same, get_or-set_other, take_more}
 use Rattle.std.proofs.lemmas.List.Elements.{All-set, All-push, All-get_or, All-head, All-tail, All-cons, Contains-push, Contains-push_cases, Contains-append_left}
@@ -68,6 +68,7 @@ shift ls n i sources one = subst (λ x. Contains ls (load_at x sources)) (omega 
 abbrev source : Rule → ℕ
 source (Rule.Has row member) = 0
 source (Rule.Flow from mask x) = 0
+source (Rule.Shift from mask by x) = 0
 source (Rule.Meet first rest x) = 0
 source (Rule.Guard test member from x) = 0
 source (Rule.Store targets from) = 0
@@ -82,6 +83,8 @@ loads_there (Rule.Has row member ∷ rules) n zero sources to at = absurd (omega
 loads_there (Rule.Has row member ∷ rules) n (suc i) sources to at = shift (loads_from (suc n) rules) n i sources (loads_there rules (suc n) i sources to at)
 loads_there (Rule.Flow from mask x ∷ rules) n zero sources to at = absurd (omega (arith, source_at (Rule.Flow from mask x ∷ rules) 0 sources to at))
 loads_there (Rule.Flow from mask x ∷ rules) n (suc i) sources to at = shift (loads_from (suc n) rules) n i sources (loads_there rules (suc n) i sources to at)
+loads_there (Rule.Shift from mask by x ∷ rules) n zero sources to at = absurd (omega (arith, source_at (Rule.Shift from mask by x ∷ rules) 0 sources to at))
+loads_there (Rule.Shift from mask by x ∷ rules) n (suc i) sources to at = shift (loads_from (suc n) rules) n i sources (loads_there rules (suc n) i sources to at)
 loads_there (Rule.Meet first rest x ∷ rules) n zero sources to at = absurd (omega (arith, source_at (Rule.Meet first rest x ∷ rules) 0 sources to at))
 loads_there (Rule.Meet first rest x ∷ rules) n (suc i) sources to at = shift (loads_from (suc n) rules) n i sources (loads_there rules (suc n) i sources to at)
 loads_there (Rule.Guard test member from x ∷ rules) n zero sources to at = absurd (omega (arith, source_at (Rule.Guard test member from x ∷ rules) 0 sources to at))
@@ -102,6 +105,8 @@ loads_within (Rule.Has row member ∷ rules) n count width masks rows low fits =
     loads_within rules (suc n) count width masks rows (omega (arith, low)) (All-tail (IsFittingRule width masks rows) (Rule.Has row member) rules fits)
 loads_within (Rule.Flow from mask x ∷ rules) n count width masks rows low fits =
     loads_within rules (suc n) count width masks rows (omega (arith, low)) (All-tail (IsFittingRule width masks rows) (Rule.Flow from mask x) rules fits)
+loads_within (Rule.Shift from mask by x ∷ rules) n count width masks rows low fits =
+    loads_within rules (suc n) count width masks rows (omega (arith, low)) (All-tail (IsFittingRule width masks rows) (Rule.Shift from mask by x) rules fits)
 loads_within (Rule.Meet first rest x ∷ rules) n count width masks rows low fits =
     loads_within rules (suc n) count width masks rows (omega (arith, low)) (All-tail (IsFittingRule width masks rows) (Rule.Meet first rest x) rules fits)
 loads_within (Rule.Guard test member from x ∷ rules) n count width masks rows low fits =

@@ -1,12 +1,12 @@
 -- A solution lies within each closed table above the start. (Exported.)
-use Rattle.std.proofs.Common.{zero, Bool, All, get_or, ◌≡◌, ℕ, suc, ◌<◌, List, [], ◌∷◌, drop, arith, length, map, refl, sym, ap, ◌∙◌, subst, IsTrue, Contains}
+use Rattle.std.proofs.Common.{zero, Bool, All, get_or, ◌≡◌, ℕ, suc, ◌+◌, ◌<◌, List, [], ◌∷◌, drop, arith, length, map, refl, sym, ap, ◌∙◌, subst, IsTrue, Contains}
 use Rattle.std.proofs.lemmas.List.Elements.{All-contains}
 use Rattle.least_rows.specs.declared.rules.Rule.{Rule}
 use Rattle.least_rows.specs.declared.rules.System.{System}
 use Rattle.least_rows.specs.Rules.{Table, row_has, IsClosed}
 use Rattle.least_rows.specs.Derived.{Derived}
-use Rattle.least_rows.specs.Derived.Derived.{given, owned, flows, meets, guards, stores, loads}
-use Rattle.least_rows.specs.Solutions.{IsAlike, IsAbove, AreClosed, IsSolution, SolutionsAreLeast}
+use Rattle.least_rows.specs.Derived.Derived.{given, owned, flows, shifts, meets, guards, stores, loads}
+use Rattle.least_rows.specs.Solutions.{IsAlike, IsAbove, AreClosed, SolutionsAreLeast}
 
 pub alike_long : (t u : Table) → IsAlike t u → length t ≡ length u
 alike_long [] [] alike = refl
@@ -37,6 +37,8 @@ module _ (s : System) (start u : Table) (long : length u ≡ length start) (abov
   derived_in _ _ (given r k is) = above r k is
   derived_in _ _ (owned r k one) = closed_at (Rule.Has r k) one r k (refl, refl)
   derived_in _ _ (flows from r k mask one is passes) = closed_at (Rule.Flow from mask r) one r k (refl, derived_in from k is, passes)
+  derived_in _ _ (shifts from r mask by n one within is passes) =
+      closed_at (Rule.Shift from mask by r) one r (n + by) (refl, within, (n, refl, derived_in from n is, passes))
   derived_in _ _ (meets first r k rest one all) = closed_at (Rule.Meet first rest r) one r k (refl, λ from among. derived_in from k (all from among))
   derived_in _ _ (guards test member from r k one there is) =
       closed_at (Rule.Guard test member from r) one r k (refl, derived_in test member there, derived_in from k is)

@@ -1,5 +1,5 @@
 -- What a visit to a rule does.
-use Rattle.std.proofs.Common.{◌≡◌, ℕ, zero, suc, ◌+◌, ◌<◌, ◌≤◌, ◌^◌, Bool, true, false, Some, None, List, [], ◌∷◌, length, length-set, set, map, get_or, refl, sym, ap, ◌∙◌, subst, IsTrue, Contains, All, inl, inr, ◌⊎◌, arith, true≢false}
+use Rattle.std.proofs.Common.{◌≡◌, ℕ, ◌+◌, ◌<◌, ◌≤◌, ◌^◌, Bool, true, false, Some, None, List, length, length-set, set, get_or, refl, sym, ap, ◌∙◌, subst, Contains, All, inl, inr, arith, true≢false}
 use Rattle.std.proofs.lemmas.Bool.{cases_eq}
 use Rattle.std.proofs.lemmas.Option.{slice_get_within, slice_get-get_or}
 use Rattle.std.specs.Prelude.{slice_get}
@@ -8,9 +8,9 @@ use Rattle.dfi_base.proofs.RowLaws.{not_had, has_put_same, has_put_other}
 use Rattle.least_rows.specs.declared.rules.Rule.{Rule}
 use Rattle.least_rows.specs.declared.rules.System.{System}
 use Rattle.least_rows.specs.declared.index.Loading.{Loading}
-use Rattle.least_rows.specs.Rules.{Table, row_has, IsClosed, IsFitting, IsFittingRule}
-use Rattle.least_rows.specs.Solutions.{IsAlike, IsAbove}
-use Rattle.least_rows.specs.tools.Growing.{IsSettled, IsGrown, IsApplied, IsReady, IsIndexOf, IsIndexWithin}
+use Rattle.least_rows.specs.Rules.{Table, IsClosed, IsFittingRule}
+use Rattle.least_rows.specs.Solutions.{IsAlike}
+use Rattle.least_rows.specs.tools.Growing.{IsSettled, IsGrown, IsApplied, IsReady, IsIndexWithin}
 use Rattle.least_rows.proofs.Gathering.{lt_or}
 use Rattle.least_rows.proofs.Least.{alike_long, alike_even}
 
@@ -48,42 +48,21 @@ cleared : (s : System) (but c : ℕ) (t : Table) (waiting : List Bool) → lengt
 cleared s but c t waiting end settled i rule apart at quiet =
     settled i rule (λ same. omega (arith, same, end, slice_get_within s.rules i rule at)) at (sym (has_put_other waiting c i false apart) ∙ quiet)
 
--- a rule that changed the table waits again
-pub visited_again : (s : System) (c : ℕ) (rule : Rule) (t : Table) (waiting : List Bool) (u : Table) (waking : List Bool)
-    → length waiting ≡ length s.rules → c < length s.rules → IsApplied s rule t (set waiting c false) u waking true
-    → IsGrown s (length s.rules) t waiting u (set waking c true) true
-visited_again s c rule t waiting u waking wide within is =
-    let one = is.grown c in
-    record {
-      alike = one.alike;
-      above = one.above;
-      sound = one.sound;
-      long = length-set waking c true ∙ one.long ∙ length-set waiting c false;
-      settled = λ settled i other apart at quiet.
-          let away : i ≡ c → ⊥ = λ same.
-          true≢false (sym (has_put_same waking c true (omega (arith, within, wide, one.long, length-set waiting c false)))
-          ∙ subst (λ x. has (set waking c true) x ≡ false) same quiet) in
-          one.settled (cleared s (length s.rules) c t waiting refl settled) i other away at (sym (has_put_other waking c i true away) ∙ quiet);
-      fewer = one.fewer;
-      quiet = one.quiet;
-    }
-
--- one that did not is closed
-pub visited_done : (s : System) (c : ℕ) (rule : Rule) (t : Table) (waiting : List Bool) (u : Table) (waking : List Bool) (changed : Bool)
-    → slice_get s.rules c ≡ Some rule → changed ≡ false → IsApplied s rule t (set waiting c false) u waking changed
-    → IsGrown s (length s.rules) t waiting u waking changed
-visited_done s c rule t waiting u waking changed at still is =
+-- a rule was visited
+pub visited : (s : System) (c : ℕ) (rule : Rule) (t : Table) (waiting : List Bool) (u : Table) (waking : List Bool) (changed : Bool)
+    → slice_get s.rules c ≡ Some rule → IsApplied s rule t (set waiting c false) u waking changed → IsGrown s (length s.rules) t waiting u waking changed
+visited s c rule t waiting u waking changed at is =
     let one = is.grown c in
     record {
       alike = one.alike;
       above = one.above;
       sound = one.sound;
       long = one.long ∙ length-set waiting c false;
-      settled = λ settled i other apart at' quiet. elim (cases_eq i c) [
+      settled = λ settled i other apart at' idle. elim (cases_eq i c) [
         | inl same ↦
             let again : other ≡ rule = some_same other rule (sym at' ∙ ap (slice_get s.rules) same ∙ at) in
-            subst (IsClosed s u) (sym again) (subst (λ x. IsClosed s x rule) (sym (one.quiet still)) (is.closed still))
-        | inr away ↦ one.settled (cleared s (length s.rules) c t waiting refl settled) i other away at' quiet
+            subst (IsClosed s u) (sym again) (is.closed c at (subst (λ x. has waking x ≡ false) same idle))
+        | inr away ↦ one.settled (cleared s (length s.rules) c t waiting refl settled) i other away at' idle
       ];
       fewer = one.fewer;
       quiet = one.quiet;

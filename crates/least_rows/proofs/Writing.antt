@@ -1,5 +1,5 @@
 -- What a write does to a table and to the rules that wait.
-use Rattle.std.proofs.Common.{◌≡◌, ℕ, zero, suc, ◌+◌, ◌<◌, ◌≤◌, Bool, true, false, ◌||◌, Option, Some, None, List, [], ◌∷◌, length, length-set, map, set, get_or, refl, sym, ap, ap₂, ◌∙◌, subst, IsTrue, Contains, inl, inr, ◌⊎◌, ◌↔◌, arith, true≢false}
+use Rattle.std.proofs.Common.{◌≡◌, ℕ, zero, suc, ◌+◌, ◌<◌, Bool, true, false, ◌||◌, Some, List, [], ◌∷◌, length, length-set, map, set, refl, sym, ap, ap₂, ◌∙◌, subst, IsTrue, Contains, inl, inr, ◌⊎◌, arith, true≢false}
 use Rattle.std.proofs.lemmas.Bool.{cases_eq}
 use Rattle.std.proofs.lemmas.List.{get_or-set_same, get_or-set_other}
 use Rattle.std.specs.Prelude.{slice_get}
@@ -7,12 +7,12 @@ use Rattle.dfi_base.specs.Bits.{has, joined}
 use Rattle.dfi_base.proofs.RowLaws.{has_joined, length_joined}
 use Rattle.least_rows.specs.declared.rules.Rule.{Rule}
 use Rattle.least_rows.specs.declared.rules.System.{System}
-use Rattle.least_rows.specs.Rules.{Table, row_of, row_has, Asks, IsClosed}
+use Rattle.least_rows.specs.Rules.{Table, row_of, row_has, Asks}
 use Rattle.least_rows.specs.Derived.{Derived}
 use Rattle.least_rows.specs.Solutions.{IsAlike, IsAbove}
 use Rattle.least_rows.specs.tools.Reads.{Reads}
-use Rattle.least_rows.specs.tools.Growing.{gaps_in, gaps, IsSound, IsSettled, IsGrown, IsWritten, IsApplied}
-use Rattle.least_rows.proofs.Asking.{asked_derived, still_closed, reads_more}
+use Rattle.least_rows.specs.tools.Growing.{gaps_in, gaps, IsSound, IsGrown, IsWritten, IsApplied}
+use Rattle.least_rows.proofs.Asking.{asked_derived, same_asks, still_closed, reads_more}
 use Rattle.least_rows.proofs.Least.{alike_long}
 
 either : (b c : Bool) → (b || c) ≡ true → (b ≡ true) ⊎ (c ≡ true)
@@ -93,69 +93,66 @@ made_fewer t to more within long other = elim (gaps_or (row_of t to) more long) 
   | inr less ↦ omega (arith, less, gaps_set t to (joined (row_of t to) more) within)
 ]
 
-not_both : (b : Bool) → b ≡ true → b ≡ false → ⊥
+pub not_both : (b : Bool) → b ≡ true → b ≡ false → ⊥
 not_both b one two = true≢false (sym one ∙ two)
 
-false_unless : (b : Bool) → (b ≡ true → ⊥) → b ≡ false
+pub false_unless : (b : Bool) → (b ≡ true → ⊥) → b ≡ false
 false_unless true none = absurd (none refl)
 false_unless false none = refl
 
--- one write, of what is asked for
-pub written_grown : (s : System) (but : ℕ) (t : Table) (waiting : List Bool) (to : ℕ) (more : List Bool) (u : Table) (waking : List Bool) (changed : Bool)
-    → to < length t → length (row_of t to) ≡ length more → IsWritten s t waiting to more u waking changed
-    → ((start : Table) → length start ≡ length t → IsSound s start t → (k : ℕ) → has more k ≡ true → Derived s start to k)
-    → IsGrown s but t waiting u waking changed
-written_grown s but t waiting to more u waking changed within long w derived = record {
-  alike = subst (λ x. IsAlike x t) (sym w.table) (alike_set t to (joined (row_of t to) more) (length_joined (row_of t to) more long));
-  above = above;
-  sound = λ start alike sound r k had. elim (made_from t to more within long r k (subst (λ x. row_has x r k ≡ true) w.table had)) [
-    | inl before ↦ sound r k before
-    | inr new ↦ subst (λ x. Derived s start x k) (sym new.0) (derived start alike sound k new.1)
-  ];
-  long = w.long;
-  settled = λ settled i rule apart at quiet.
-      let before : has waiting i ≡ false = false_unless (has waiting i) (λ waits. not_both (has waking i) (w.kept i waits) quiet) in
-      let closed : IsClosed s t rule = settled i rule apart at before in
-      by i rule at quiet closed changed refl;
-  fewer = λ is. subst (λ x. gaps x < gaps t) (sym w.table) (made_fewer t to more within long (λ same. not_both changed is (w.tells.1 (w.table ∙ same))));
-  quiet = w.tells.0;
-}
-  where
-    above : IsAbove t u
-    above r k is = subst (λ x. row_has x r k ≡ true) (sym w.table) (made_above t to more within long r k is)
+module _ (s : System) (t : Table) (waiting : List Bool) (to : ℕ) (more : List Bool) (u : Table) (waking : List Bool) (changed : Bool) (within : to < length t)
+    (long : length (row_of t to) ≡ length more) (w : IsWritten s t waiting to more u waking changed) where
+  pub written_above : IsAbove t u
+  written_above r k is = subst (λ x. row_has x r k ≡ true) (sym w.table) (made_above t to more within long r k is)
 
-    by : (i : ℕ) (rule : Rule) → slice_get s.rules i ≡ Some rule → has waking i ≡ false → IsClosed s t rule → (b : Bool) → changed ≡ b → IsClosed s u rule
-    by i rule at quiet closed false is = subst (λ x. IsClosed s x rule) (sym (w.tells.0 is)) closed
-    by i rule at quiet closed true is =
-        still_closed s t u rule (ap length w.table ∙ length-set t to (joined (row_of t to) more)) above
-        (λ x reads. ap (λ l. row_of l x) w.table
-        ∙ elsewhere t to more x (λ same.
-        not_both (has waking i) (w.woken is i rule at (reads_more t u rule above to (subst (Reads t rule) same reads))) quiet))
-        closed
+  pub waited_not : (i : ℕ) → has waking i ≡ false → has waiting i ≡ false
+  waited_not i idle = false_unless (has waiting i) (λ waits. not_both (has waking i) (w.kept i waits) idle)
 
--- the row has what was written
-pub written_within : (s : System) (t : Table) (waiting : List Bool) (to : ℕ) (more : List Bool) (u : Table) (waking : List Bool) (changed : Bool)
-    → to < length t → length (row_of t to) ≡ length more → IsWritten s t waiting to more u waking changed → (k : ℕ) → has more k ≡ true
-    → row_has u to k ≡ true
-written_within s t waiting to more u waking changed within long w k is =
-    ap (λ x. row_has x to k) w.table ∙ here t to more within long k ∙ or_right (row_has t to k) (has more k) is
+  -- a rule that does not wait reads no row that grew
+  pub unread : (i : ℕ) (rule : Rule) → slice_get s.rules i ≡ Some rule → has waking i ≡ false → (x : ℕ) → Reads t rule x → row_of u x ≡ row_of t x
+  unread i rule at idle x reads = by changed refl
+    where
+      by : (b : Bool) → changed ≡ b → row_of u x ≡ row_of t x
+      by false is = ap (λ l. row_of l x) (w.tells.0 is)
+      by true is =
+          ap (λ l. row_of l x) w.table
+          ∙ elsewhere t to more x (λ same.
+          not_both (has waking i) (w.woken is i rule at (reads_more t u rule written_above to (subst (Reads t rule) same reads))) idle)
 
--- what a rule asks of one row, written
-pub written_applied : (s : System) (rule : Rule) (t : Table) (waiting : List Bool) (to : ℕ) (more : List Bool) (u : Table) (waking : List Bool) (changed : Bool)
-    → Contains s.rules rule → to < length t → length (row_of t to) ≡ length more → IsWritten s t waiting to more u waking changed
-    → ((k : ℕ) → has more k ≡ true → Asks s t rule to k) → ((r k : ℕ) → Asks s t rule r k → (r ≡ to) × (has more k ≡ true))
-    → IsApplied s rule t waiting u waking changed
-written_applied s rule t waiting to more u waking changed one within long w asks asked = record {
-  grown = λ but.
-      written_grown s but t waiting to more u waking changed within long w (λ start alike sound k had.
-      asked_derived s start t rule one alike sound to k (asks k had));
-  same = w.same;
-  closed = λ quiet r k ask.
-      let place = asked r k ask in
-      subst (λ x. row_has x r k ≡ true) (sym w.table ∙ w.tells.0 quiet)
-      (subst (λ x. row_has (set t to (joined (row_of t to) more)) x k ≡ true) (sym place.0)
-      (here t to more within long k ∙ or_right (row_has t to k) (has more k) place.1));
-}
+  as_long : length u ≡ length t
+  as_long = ap length w.table ∙ length-set t to (joined (row_of t to) more)
+
+  -- one write, of what is asked for
+  pub written_grown : (but : ℕ) → ((start : Table) → length start ≡ length t → IsSound s start t → (k : ℕ) → has more k ≡ true → Derived s start to k)
+      → IsGrown s but t waiting u waking changed
+  written_grown but derived = record {
+    alike = subst (λ x. IsAlike x t) (sym w.table) (alike_set t to (joined (row_of t to) more) (length_joined (row_of t to) more long));
+    above = written_above;
+    sound = λ start alike sound r k had. elim (made_from t to more within long r k (subst (λ x. row_has x r k ≡ true) w.table had)) [
+      | inl before ↦ sound r k before
+      | inr new ↦ subst (λ x. Derived s start x k) (sym new.0) (derived start alike sound k new.1)
+    ];
+    long = w.long;
+    settled = λ settled i rule apart at idle.
+        still_closed s t u rule as_long written_above (unread i rule at idle) (settled i rule apart at (waited_not i idle));
+    fewer = λ is. subst (λ x. gaps x < gaps t) (sym w.table) (made_fewer t to more within long (λ same. not_both changed is (w.tells.1 (w.table ∙ same))));
+    quiet = w.tells.0;
+  }
+
+  -- the row has what was written
+  pub written_within : (k : ℕ) → has more k ≡ true → row_has u to k ≡ true
+  written_within k is = ap (λ x. row_has x to k) w.table ∙ here t to more within long k ∙ or_right (row_has t to k) (has more k) is
+
+  -- what a rule asks of one row, written
+  pub written_applied : (rule : Rule) → Contains s.rules rule → ((k : ℕ) → has more k ≡ true → Asks s t rule to k)
+      → ((r k : ℕ) → Asks s t rule r k → (r ≡ to) × (has more k ≡ true)) → IsApplied s rule t waiting u waking changed
+  written_applied rule one asks asked = record {
+    grown = λ but. written_grown but (λ start alike sound k had. asked_derived s start t rule one alike sound to k (asks k had));
+    same = w.same;
+    closed = λ i at idle r k ask.
+        let place = asked r k (same_asks s t u rule as_long (unread i rule at idle) r k ask) in
+        subst (λ x. row_has u x k ≡ true) (sym place.0) (written_within k place.1);
+  }
 
 pub unmoved : (s : System) (but : ℕ) (t : Table) (waiting : List Bool) → IsGrown s but t waiting t waiting false
 unmoved s but t waiting = record {
@@ -173,7 +170,7 @@ pub idle_applied : (s : System) (rule : Rule) (t : Table) (waiting : List Bool) 
 idle_applied s rule t waiting none = record {
   grown = λ but. unmoved s but t waiting;
   same = λ is. refl;
-  closed = λ is r k ask. absurd (none r k ask);
+  closed = λ i at idle r k ask. absurd (none r k ask);
 }
 
 pub none_both : (a b : Bool) → (b || a) ≡ false → (b ≡ false) × (a ≡ false)

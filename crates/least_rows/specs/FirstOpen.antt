@@ -1,5 +1,5 @@
 -- The first rule that is open in a table.
-use Rattle.std.specs.Prelude.{◌≡◌, ℕ, ◌<◌, Option, Some, None, All, take, slice_get}
+use Rattle.std.specs.Prelude.{◌≡◌, ℕ, Option, Some, None, All, take, slice_get}
 use Rattle.least_rows.specs.declared.rules.Rule.{Rule}
 use Rattle.least_rows.specs.declared.rules.System.{System}
 use Rattle.least_rows.specs.Rules.{Table, IsClosed}

@@ -1,5 +1,5 @@
 -- The solution of rules above a table.
-use Rattle.std.specs.Prelude.{◌≡◌, ℕ, List, All, IsTrue, map, length}
+use Rattle.std.specs.Prelude.{◌≡◌, ℕ, All, IsTrue, map, length}
 use Rattle.least_rows.specs.declared.rules.System.{System}
 use Rattle.least_rows.specs.Rules.{Table, row_has, IsClosed}
 use Rattle.least_rows.specs.Derived.{Derived}

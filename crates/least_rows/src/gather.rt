@@ -2,7 +2,7 @@
 
 ghost use Rattle.std.specs.Prelude.{◌≡◌, ℕ, ◌<◌, ◌∷◌, ◌↔◌, Some, All, Contains, IsTrue, length, false, replicate};
 ghost use Rattle.dfi_base.specs.Bits.{has};
-ghost use Rattle.least_rows.specs.Rules.{row_has, Passes, IsLoaded};
+ghost use Rattle.least_rows.specs.Rules.{row_has, Passes, IsMoved, IsLoaded};
 
 use dfi_base::Bits;
 
@@ -18,6 +18,29 @@ pub fn gather_row(rows: &[Bits], masks: &[Bits], from: u32, mask: Option<u32>, a
     asked.copy_from(&rows[from as usize]);
     if let Some(mask) = mask {
         asked.and(&masks[mask as usize]);
+    }
+}
+
+/// The members of a row that a mask lets pass, moved up.
+pub fn gather_moved(rows: &[Bits], masks: &[Bits], from: u32, mask: u32, by: u32, asked: &mut Bits)
+    requires empty { asked.old ≡ replicate (length asked.old) false }
+    requires from { from < length rows.now }
+    requires rows { All (λ row. length row ≡ length asked.old) rows.now }
+    requires mask { mask < length masks.now }
+    requires masks { All (λ row. length row ≡ length asked.old) masks.now }
+    ensures long { length asked.new ≡ length asked.old }
+    ensures asked { (k : ℕ) → IsTrue (has asked.new k) ↔ ((k < length asked.old) × IsMoved rows.now masks.now from mask by k) }
+{
+    let width = asked.len();
+    let mut at = 0;
+    while at < width {
+        let Some(n) = rows[from as usize].next_member(at) else {
+            return;
+        };
+        if masks[mask as usize].get(n) && by < width - n {
+            asked.put(n + by, true);
+        }
+        at = n + 1;
     }
 }
 

@@ -89,6 +89,7 @@ fn reads_of(alloc: Global, rule: &Rule) -> Result<Vec<u32>, Memory>
     let reads = match rule {
         Rule::Has { .. } => Vec::new(alloc),
         Rule::Flow { from, .. } => Vec::from_slice(alloc, &[*from])?,
+        Rule::Shift { from, .. } => Vec::from_slice(alloc, &[*from])?,
         Rule::Meet { first, rest, .. } => meet_reads(alloc, *first, rest.as_slice())?,
         Rule::Guard { test, from, .. } => Vec::from_slice(alloc, &[*test, *from])?,
         Rule::Store { targets, from } => Vec::from_slice(alloc, &[*targets, *from])?,

@@ -1,5 +1,5 @@
 ghost use Rattle.std.specs.Prelude.{◌≡◌, ℕ, ◌<◌, ◌^◌, ◌∷◌, ◌↔◌, Some, All, Contains, IsTrue, length};
-ghost use Rattle.least_rows.specs.Rules.{row_of, row_has, Passes, IsLoaded, IsFitting, IsFittingRule, IsClosed};
+ghost use Rattle.least_rows.specs.Rules.{row_of, row_has, Passes, IsMoved, IsLoaded, IsFitting, IsFittingRule, IsClosed};
 ghost use Rattle.least_rows.specs.FirstOpen.{IsFirstOpen};
 
 use crate::index::has_member;
@@ -29,6 +29,14 @@ fn is_closed(system: &System, rows: &[Bits], rule: &Rule) -> bool
     match rule {
         Rule::Has { row, member } => has_member(&rows[*row as usize], *member),
         Rule::Flow { from, mask, to } => { flows(rows, system.masks.as_slice(), *from, *mask, *to) }
+        Rule::Shift { from, mask, by, to } => moves(
+            rows,
+            system.masks.as_slice(),
+            *from,
+            *mask,
+            *by,
+            *to,
+        ),
         Rule::Meet { first, rest, to } => meets(rows, *first, rest.as_slice(), *to),
         Rule::Guard {
             test,
@@ -58,6 +66,26 @@ fn flows(rows: &[Bits], masks: &[Bits], from: u32, mask: Option<u32>, to: u32) -
         }
         None => rows[from as usize].is_within(&rows[to as usize]),
     }
+}
+
+fn moves(rows: &[Bits], masks: &[Bits], from: u32, mask: u32, by: u32, to: u32) -> bool
+    requires from { from < length rows.now }
+    requires to { to < length rows.now }
+    requires mask { mask < length masks.now }
+    requires rows { All (λ row. length row ≡ length (row_of rows.now to)) rows.now }
+    requires masks { All (λ row. length row ≡ length (row_of rows.now to)) masks.now }
+    ensures { IsTrue result ↔ ((k : ℕ) → k < length (row_of rows.now to) → IsMoved rows.now masks.now from mask by k → IsTrue (row_has rows.now to k)) }
+{
+    let row = &rows[to as usize];
+    for k in by..row.len() {
+        if !row.get(k)
+            && has_member(&rows[from as usize], k - by)
+            && has_member(&masks[mask as usize], k - by)
+        {
+            return false;
+        }
+    }
+    true
 }
 
 fn meets(rows: &[Bits], first: u32, rest: &[u32], to: u32) -> bool

@@ -16,6 +16,13 @@ pub enum Rule {
         mask: Option<u32>,
         to: u32,
     },
+    /// The members of a row that a mask lets pass flow into another, each moved up by a number. None moves past the end.
+    Shift {
+        from: u32,
+        mask: u32,
+        by: u32,
+        to: u32,
+    },
     /// What several rows have in common flows into a row.
     Meet {
         first: u32,

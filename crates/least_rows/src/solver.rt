@@ -6,7 +6,7 @@ ghost use Rattle.least_rows.specs.Rules.{Table, IsFittingRule};
 ghost use Rattle.least_rows.specs.Solutions.{IsAlike, IsAbove, AreClosed};
 ghost use Rattle.least_rows.specs.tools.Growing.{IsWritten, IsApplied, IsGrown, IsIndexOf, IsIndexWithin, IsSettled, IsSound, IsReady};
 
-use crate::gather::{gather_loads, gather_meet, gather_row};
+use crate::gather::{gather_loads, gather_meet, gather_moved, gather_row};
 use crate::index::{Index, has_member, wake_loads, wake_readers};
 use crate::rules::{Rule, System};
 use dfi_base::Bits;
@@ -96,6 +96,18 @@ impl Solver {
                 gather_row(&self.rows, system.masks.as_slice(), *from, *mask, asked);
                 self.write(*to, asked)
             }
+            Rule::Shift { from, mask, by, to } => {
+                asked.copy_from(empty);
+                gather_moved(
+                    &self.rows,
+                    system.masks.as_slice(),
+                    *from,
+                    *mask,
+                    *by,
+                    asked,
+                );
+                self.write(*to, asked)
+            }
             Rule::Meet { first, rest, to } => {
                 gather_meet(&self.rows, *first, rest.as_slice(), asked);
                 self.write(*to, asked)
@@ -135,7 +147,7 @@ impl Solver {
         self.write(to, asked)
     }
 
-    /// Applies a rule, which waits again if the table changed.
+    /// Applies a rule, which waits no longer unless a row that it reads grew.
     fn visit(&mut self, system: &System, number: u32, asked: &mut Bits, empty: &Bits) -> bool
         requires number { number < length system.now.rules }
         requires ready { IsReady system.now self.old.rows.items self.old.waiting self.old.index.readers.items self.old.index.loads.items asked.old empty.now }
@@ -147,11 +159,7 @@ impl Solver {
         let Some(rule) = system.rules.get(number as usize) else {
             return false;
         };
-        let changed = self.apply(system, rule, asked, empty);
-        if changed {
-            self.waiting.put(number, true);
-        }
-        changed
+        self.apply(system, rule, asked, empty)
     }
 
     /// Visits the rules that wait, in order.

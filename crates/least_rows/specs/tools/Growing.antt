@@ -1,5 +1,5 @@
 -- How a table and the list of waiting rules go on.
-use Rattle.std.specs.Prelude.{◌≡◌, ℕ, suc, ◌<◌, ◌+◌, ◌^◌, ◌↔◌, Bool, true, false, Some, List, [], ◌∷◌, All, Contains, IsTrue, length, map, replicate, slice_get, slice_index_or, slice_set}
+use Rattle.std.specs.Prelude.{◌≡◌, ℕ, suc, ◌<◌, ◌+◌, ◌^◌, ◌↔◌, Bool, true, false, Some, List, [], ◌∷◌, All, Contains, IsTrue, length, replicate, slice_get, slice_index_or, slice_set}
 use Rattle.dfi_base.specs.Bits.{has, joined}
 use Rattle.least_rows.specs.declared.rules.Rule.{Rule}
 use Rattle.least_rows.specs.declared.rules.System.{System}
@@ -46,11 +46,11 @@ pub record IsWritten (s : System) (t : Table) (waiting : List Bool) (to : ℕ) (
   pub same : changed ≡ false → waking ≡ waiting
   pub woken : changed ≡ true → (i : ℕ) (rule : Rule) → slice_get s.rules i ≡ Some rule → Reads u rule to → IsTrue (has waking i)
 
--- A rule was applied: where nothing changed, it is closed.
+-- A rule was applied: where it does not wait, it is closed.
 pub record IsApplied (s : System) (rule : Rule) (t : Table) (waiting : List Bool) (u : Table) (waking : List Bool) (changed : Bool) : Type 0 where
   pub grown : (but : ℕ) → IsGrown s but t waiting u waking changed
   pub same : changed ≡ false → waking ≡ waiting
-  pub closed : changed ≡ false → IsClosed s t rule
+  pub closed : (i : ℕ) → slice_get s.rules i ≡ Some rule → has waking i ≡ false → IsClosed s u rule
 
 -- the first rules stand in the lists of the rows that they read
 abbrev pub ReadersAre : System → ℕ → List (List ℕ) → Type 0
@@ -62,6 +62,7 @@ abbrev pub loads_from : ℕ → List Rule → List Loading
 loads_from i [] = []
 loads_from i (Rule.Has row member ∷ rules) = loads_from (suc i) rules
 loads_from i (Rule.Flow from mask to ∷ rules) = loads_from (suc i) rules
+loads_from i (Rule.Shift from mask by to ∷ rules) = loads_from (suc i) rules
 loads_from i (Rule.Meet first rest to ∷ rules) = loads_from (suc i) rules
 loads_from i (Rule.Guard test member from to ∷ rules) = loads_from (suc i) rules
 loads_from i (Rule.Store targets from ∷ rules) = loads_from (suc i) rules

@@ -1,6 +1,6 @@
-use Rattle.std.proofs.Common.{◌≡◌, ℕ, ◌+◌, ◌<◌, ◌≤◌, ◌||◌, [], true, false, length, get_or, ap, sym, ◌∙◌, subst, IsTrue, arith, ltb-true, ltb-false}
+use Rattle.std.proofs.Common.{◌≡◌, ℕ, ◌+◌, ◌<◌, ◌≤◌, ◌||◌, [], length, ap, sym, ◌∙◌, ltb-true, ltb-false}
 use Rattle.std.proofs.lemmas.List.Elements.{All-get_or}
-use Rattle.dfi_base.specs.Bits.{has, joined}
+use Rattle.dfi_base.specs.Bits.{has}
 use Rattle.dfi_base.proofs.RowLaws.{has_joined, length_joined}
 use Rattle.least_rows.specs.Rules.{row_of, row_has}
 use Rattle.least_rows.proofs.Gathering.{row_is, past, or_none, LoadedBelow, loaded_more}

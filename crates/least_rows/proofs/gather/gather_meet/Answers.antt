@@ -1,9 +1,9 @@
-use Rattle.std.proofs.Common.{◌≡◌, ◌+◌, ◌<◌, ◌&&◌, ◌∷◌, [], true, length, take, take_all, ap, sym, ◌∙◌, subst, IsTrue, arith}
+use Rattle.std.proofs.Common.{◌≡◌, ◌<◌, ◌&&◌, ◌∷◌, [], length, take_all, ap, sym, ◌∙◌, subst}
 use Rattle.std.proofs.lemmas.List.Elements.{All-get_or}
-use Rattle.dfi_base.specs.Bits.{has, met}
+use Rattle.dfi_base.specs.Bits.{has}
 use Rattle.dfi_base.proofs.RowLaws.{has_met, length_met}
 use Rattle.std.specs.Prelude.{slice_index}
-use Rattle.least_rows.specs.Rules.{row_of, row_has}
+use Rattle.least_rows.specs.Rules.{row_of}
 use Rattle.least_rows.proofs.Gathering.{item, row_is, InAll, meet_turn}
 use Rattle.least_rows.proofs.gather.gather_meet.Goals as goal
 

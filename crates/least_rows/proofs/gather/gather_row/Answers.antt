@@ -1,8 +1,8 @@
-use Rattle.std.proofs.Common.{◌≡◌, ◌<◌, ◌&&◌, [], true, length, ap, sym, ◌∙◌, subst, IsTrue}
+use Rattle.std.proofs.Common.{◌≡◌, [], length, ap, sym, ◌∙◌, subst}
 use Rattle.std.proofs.lemmas.List.Elements.{All-get_or}
-use Rattle.dfi_base.specs.Bits.{has, met}
+use Rattle.dfi_base.specs.Bits.{has}
 use Rattle.dfi_base.proofs.RowLaws.{has_met, length_met, and_parts}
-use Rattle.least_rows.specs.Rules.{row_of, row_has, Passes}
+use Rattle.least_rows.specs.Rules.{row_of, Passes}
 use Rattle.least_rows.proofs.Gathering.{row_is, both_true}
 use Rattle.least_rows.proofs.gather.gather_row.Goals as goal
 

@@ -1,4 +1,4 @@
-use Rattle.std.proofs.Common.{◌≡◌, ◌+◌, ◌<◌, ◌∷◌, ◌++◌, [], length, length-set, get_or, take_all, ap, sym, ◌∙◌, subst, Contains, All}
+use Rattle.std.proofs.Common.{◌≡◌, ◌<◌, ◌∷◌, ◌++◌, [], length, length-set, get_or, take_all, ap, sym, ◌∙◌, subst, Contains, All}
 use Rattle.std.proofs.lemmas.List.Elements.{All-get_or}
 use Rattle.std.specs.Prelude.{slice_set, slice_index}
 use Rattle.least_rows.proofs.Gathering.{list_is}

@@ -1,7 +1,6 @@
 use Rattle.std.proofs.Common.{◌≡◌, ◌<◌, Some, length, ap, sym, ◌∙◌, subst, Contains, arith}
 use Rattle.std.proofs.lemmas.Option.{slice_get-get_or}
 use Rattle.std.specs.Prelude.{slice_get}
-use Rattle.least_rows.specs.declared.rules.Rule.{Rule}
 use Rattle.least_rows.proofs.Indexing.{readers_more}
 use Rattle.least_rows.proofs.index.readers_of.Goals as goal
 

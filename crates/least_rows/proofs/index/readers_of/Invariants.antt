@@ -1,4 +1,4 @@
-use Rattle.std.proofs.Common.{◌≡◌, ℕ, ◌<◌, All, length}
+use Rattle.std.proofs.Common.{◌≡◌, ◌<◌, All, length}
 use Rattle.least_rows.specs.tools.Growing.{ReadersAre}
 use Rattle.least_rows.proofs.index.readers_of.Given as goal
 

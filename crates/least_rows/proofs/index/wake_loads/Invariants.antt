@@ -1,4 +1,4 @@
-use Rattle.std.proofs.Common.{◌≡◌, ℕ, ◌<◌, IsTrue, Contains, length, take}
+use Rattle.std.proofs.Common.{◌≡◌, ℕ, IsTrue, Contains, length, take}
 use Rattle.dfi_base.specs.Bits.{has}
 use Rattle.least_rows.specs.Rules.{row_has}
 use Rattle.least_rows.proofs.index.wake_loads.Given as goal

@@ -1,4 +1,4 @@
-use Rattle.std.proofs.Common.{◌≡◌, ◌+◌, ◌<◌, length, take, take_all, get_or, ap, sym, ◌∙◌, subst, All, arith}
+use Rattle.std.proofs.Common.{◌≡◌, ◌<◌, length, take_all, get_or, ap, ◌∙◌, subst, All, arith}
 use Rattle.std.proofs.lemmas.List.Elements.{All-more}
 use Rattle.least_rows.specs.Rules.{IsClosed}
 use Rattle.least_rows.proofs.open.first_open.Goals as goal

@@ -1,7 +1,7 @@
-use Rattle.std.proofs.Common.{◌≡◌, ℕ, ◌<◌, ◌∷◌, true, length, ap, sym, ◌∙◌, subst, refl, IsTrue, Contains, ◌↔◌}
+use Rattle.std.proofs.Common.{◌≡◌, ℕ, ◌∷◌, true, length, ap, sym, ◌∙◌, subst, refl, IsTrue, Contains, ◌↔◌}
 use Rattle.dfi_base.specs.Bits.{has}
 use Rattle.least_rows.specs.declared.rules.Rule.{Rule}
-use Rattle.least_rows.specs.Rules.{row_of, row_has, IsClosed, IsFittingRule}
+use Rattle.least_rows.specs.Rules.{row_has, IsClosed, IsFittingRule}
 use Rattle.least_rows.proofs.Gathering.{row_is}
 use Rattle.least_rows.proofs.open.is_closed.Goals as goal
 

@@ -1,4 +1,4 @@
-use Rattle.std.proofs.Common.{◌≡◌, suc, ◌<◌, ◌∷◌, [], length, get_or, ap, sym, ◌∙◌, IsTrue, Contains, refl, arith, true≢false}
+use Rattle.std.proofs.Common.{◌≡◌, suc, ◌<◌, length, ap, sym, ◌∙◌, arith, true≢false}
 use Rattle.std.proofs.lemmas.List.Elements.{All-get_or, Contains-get_or}
 use Rattle.std.specs.Prelude.{slice_index}
 use Rattle.dfi_base.specs.Bits.{has}

@@ -1,5 +1,4 @@
-use Rattle.std.proofs.Common.{◌≡◌, ◌<◌, ◌∷◌, length, ap, sym, ◌∙◌, refl, arith}
-use Rattle.dfi_base.specs.Bits.{has}
+use Rattle.std.proofs.Common.{◌≡◌, length, ap, refl, arith}
 use Rattle.least_rows.specs.Rules.{row_of}
 use Rattle.least_rows.proofs.Asking.{first_one}
 use Rattle.least_rows.proofs.Gathering.{row_is}

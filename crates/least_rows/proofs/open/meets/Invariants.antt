@@ -1,4 +1,4 @@
-use Rattle.std.proofs.Common.{◌≡◌, ℕ, ◌<◌, ◌∷◌, Contains, IsTrue}
+use Rattle.std.proofs.Common.{ℕ, ◌<◌, ◌∷◌, Contains, IsTrue}
 use Rattle.least_rows.specs.Rules.{row_has}
 use Rattle.least_rows.proofs.open.meets.Given as goal
 

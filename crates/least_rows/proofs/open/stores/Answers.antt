@@ -1,6 +1,5 @@
-use Rattle.std.proofs.Common.{◌≡◌, ◌<◌, length, ap, sym, ◌∙◌, arith, true≢false}
+use Rattle.std.proofs.Common.{ap, sym, ◌∙◌, true≢false}
 use Rattle.dfi_base.specs.Bits.{has}
-use Rattle.least_rows.specs.Rules.{row_of}
 use Rattle.least_rows.proofs.Gathering.{row_is}
 use Rattle.least_rows.proofs.open.stores.Goals as goal
 

@@ -1,11 +1,9 @@
-use Rattle.std.proofs.Common.{◌≡◌, ◌<◌, ◌≤◌, true, false, length, ap, sym, ◌∙◌, subst, refl, All, Contains, arith, true≢false}
+use Rattle.std.proofs.Common.{◌≡◌, ◌<◌, false, length, ap, sym, ◌∙◌, subst, refl, All, Contains, arith, true≢false}
 use Rattle.std.proofs.lemmas.List.{length-replicate}
 use Rattle.std.proofs.lemmas.Option.{slice_get_within}
-use Rattle.dfi_base.specs.Bits.{has}
-use Rattle.least_rows.specs.Rules.{Table}
 use Rattle.least_rows.specs.Derived.Derived.{given}
 use Rattle.least_rows.specs.Solutions.{IsSolution}
-use Rattle.least_rows.specs.tools.Growing.{IsIndexWithin, loads_from}
+use Rattle.least_rows.specs.tools.Growing.{loads_from}
 use Rattle.least_rows.proofs.Indexing.{loads_there, loads_within}
 use Rattle.least_rows.proofs.solution.solve.Goals as goal
 

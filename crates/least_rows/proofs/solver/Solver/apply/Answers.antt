@@ -1,12 +1,11 @@
-use Rattle.std.proofs.Common.{◌≡◌, ℕ, ◌<◌, [], ◌∷◌, true, false, length, length-set, set, replicate, ◌↔◌, ap, sym, ◌∙◌, subst, IsTrue, Contains, All, refl, arith}
+use Rattle.std.proofs.Common.{◌≡◌, ◌<◌, ◌∷◌, true, false, length, length-set, set, replicate, ◌↔◌, ap, sym, ◌∙◌, subst, IsTrue, Contains, arith}
 use Rattle.std.proofs.lemmas.List.{length-replicate}
 use Rattle.dfi_base.specs.Bits.{has}
 use Rattle.least_rows.specs.declared.rules.Rule.{Rule}
-use Rattle.least_rows.specs.declared.rules.System.{System}
-use Rattle.least_rows.specs.Rules.{Table, row_of, row_has, Asks, Passes, IsFittingRule, IsLoaded}
-use Rattle.least_rows.specs.tools.Growing.{IsIndexOf, IsWritten, IsApplied}
+use Rattle.least_rows.specs.Rules.{row_has, Passes, IsFittingRule, IsMoved, IsLoaded}
+use Rattle.least_rows.specs.tools.Growing.{IsApplied}
 use Rattle.least_rows.proofs.Gathering.{InAll}
-use Rattle.least_rows.proofs.Applying.{has_applied, flow_applied, meet_applied, load_applied, single}
+use Rattle.least_rows.proofs.Applying.{has_applied, flow_applied, shift_applied, meet_applied, load_applied, single}
 use Rattle.least_rows.proofs.solver.Solver.apply.Goals as goal
 
 pub returns-in-Has-clause-applied : goal.returns-in-Has-clause-applied
@@ -35,6 +34,23 @@ returns-in-Flow-clause-applied c index one =
     subst (λ x. IsTrue (has c.gather_row.new.asked k) ↔ (IsTrue (row_has x c.in-Flow.from k) × Passes s.masks c.in-Flow.mask k)) c.deref.ensures.value
     (subst (λ m. IsTrue (has c.gather_row.new.asked k) ↔ (IsTrue (row_has c.deref.result.now c.in-Flow.from k) × Passes m c.in-Flow.mask k)) c.as_slice.ensures
     (c.gather_row.ensures.asked k))))
+
+pub returns-in-Shift-clause-applied : goal.returns-in-Shift-clause-applied
+returns-in-Shift-clause-applied c index one =
+    let s = c.args.system.now in
+    let t = c.args.self.now.rows.items in
+    let wide = length c.args.asked.now in
+    let shift = Rule.Shift c.in-Shift.from c.in-Shift.mask c.in-Shift.by c.in-Shift.to in
+    let fits : IsFittingRule s.width (length s.masks) (length t) shift = subst (IsFittingRule s.width (length s.masks) (length t)) c.in-Shift.is c.requires.rule in
+    let empty : length c.copy_from-in-Shift.new.self ≡ wide = ap length (c.copy_from-in-Shift.ensures ∙ c.requires.empty) ∙ length-replicate wide false in
+    let long : length c.gather_moved.new.asked ≡ wide = c.gather_moved.ensures.long ∙ empty in
+    subst (λ r. IsApplied s r t c.args.self.now.waiting c.write-in-Shift.new.self.rows.items c.write-in-Shift.new.self.waiting c.write-in-Shift.result) (sym c.in-Shift.is)
+    (shift_applied s t c.args.self.now.waiting c.in-Shift.to wide c.gather_moved.new.asked c.write-in-Shift.new.self.rows.items c.write-in-Shift.new.self.waiting c.write-in-Shift.result fits.1 c.requires.rows long (c.write-in-Shift.ensures.written s index) c.in-Shift.from c.in-Shift.mask c.in-Shift.by (subst (Contains s.rules) c.in-Shift.is one)
+    (λ k.
+    subst (λ n. IsTrue (has c.gather_moved.new.asked k) ↔ ((k < n) × IsMoved t s.masks c.in-Shift.from c.in-Shift.mask c.in-Shift.by k)) (empty ∙ c.requires.width)
+    (subst (λ x. IsTrue (has c.gather_moved.new.asked k) ↔ ((k < length c.copy_from-in-Shift.new.self) × IsMoved x s.masks c.in-Shift.from c.in-Shift.mask c.in-Shift.by k)) c.deref-in-Shift.ensures.value
+    (subst (λ m. IsTrue (has c.gather_moved.new.asked k) ↔ ((k < length c.copy_from-in-Shift.new.self) × IsMoved c.deref-in-Shift.result.now m c.in-Shift.from c.in-Shift.mask c.in-Shift.by k)) c.as_slice-in-Shift.ensures
+    (c.gather_moved.ensures.asked k)))))
 
 pub returns-in-Meet-clause-applied : goal.returns-in-Meet-clause-applied
 returns-in-Meet-clause-applied c index one =

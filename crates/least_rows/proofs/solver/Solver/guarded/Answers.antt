@@ -1,4 +1,4 @@
-use Rattle.std.proofs.Common.{◌≡◌, ◌<◌, [], true, length, ap, sym, ◌∙◌, subst, IsTrue, Contains, refl}
+use Rattle.std.proofs.Common.{◌≡◌, [], true, length, ap, sym, ◌∙◌, refl}
 use Rattle.std.proofs.lemmas.List.Elements.{All-get_or}
 use Rattle.dfi_base.specs.Bits.{has}
 use Rattle.least_rows.specs.declared.rules.Rule.{Rule}
@@ -17,6 +17,6 @@ returns-clause-applied c s index one =
     let wide : length (row_of t c.args.to) ≡ length more =
     All-get_or (λ r. length r ≡ length c.args.asked.now) t c.args.to [] c.requires.to c.requires.rows
     ∙ sym (ap length row ∙ All-get_or (λ r. length r ≡ length c.args.asked.now) t c.args.from [] c.requires.from c.requires.rows) in
-    written_applied s (Rule.Guard c.args.test c.args.member c.args.from c.args.to) t c.args.self.now.waiting c.args.to more c.write.new.self.rows.items
-    c.write.new.self.waiting c.write.result one c.requires.to wide (c.write.ensures.written s index)
+    written_applied s t c.args.self.now.waiting c.args.to more c.write.new.self.rows.items c.write.new.self.waiting c.write.result c.requires.to wide
+    (c.write.ensures.written s index) (Rule.Guard c.args.test c.args.member c.args.from c.args.to) one
     (λ k had. (refl, passes, sym (ap (λ r. has r k) row) ∙ had)) (λ r k asks. (asks.0, ap (λ l. has l k) row ∙ asks.2))

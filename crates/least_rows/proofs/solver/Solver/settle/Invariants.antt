@@ -1,4 +1,4 @@
-use Rattle.std.proofs.Common.{◌≡◌, ℕ, ◌+◌, ◌*◌, true, false, length, if◌then◌else◌}
+use Rattle.std.proofs.Common.{◌≡◌, ℕ, ◌+◌, ◌*◌, false, length, if◌then◌else◌}
 use Rattle.dfi_base.specs.Bits.{has}
 use Rattle.least_rows.specs.Rules.{Table}
 use Rattle.least_rows.specs.Solutions.{IsAlike, IsAbove}

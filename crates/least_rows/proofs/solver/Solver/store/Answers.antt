@@ -1,12 +1,11 @@
-use Rattle.std.proofs.Common.{◌≡◌, ℕ, ◌+◌, ◌<◌, ◌≤◌, ◌||◌, [], true, false, length, ap, sym, ◌∙◌, subst, IsTrue, Contains, All, refl, arith}
+use Rattle.std.proofs.Common.{◌≡◌, ◌<◌, [], length, ap, sym, ◌∙◌, subst, All, arith}
 use Rattle.std.proofs.lemmas.List.Elements.{All-get_or}
 use Rattle.dfi_base.specs.Bits.{has}
-use Rattle.least_rows.specs.declared.rules.Rule.{Rule}
-use Rattle.least_rows.specs.Rules.{row_of, row_has}
+use Rattle.least_rows.specs.Rules.{row_of}
 use Rattle.least_rows.specs.tools.Growing.{IsIndexOf}
 use Rattle.least_rows.proofs.Least.{alike_long, alike_even}
 use Rattle.least_rows.proofs.Gathering.{row_is}
-use Rattle.least_rows.proofs.Storing.{IsStoring, ended, turn}
+use Rattle.least_rows.proofs.Storing.{ended, turn}
 use Rattle.least_rows.proofs.solver.Solver.store.Goals as goal
 
 pub returns-in_default-clause-applied : goal.returns-in_default-clause-applied
@@ -17,8 +16,8 @@ returns-in_default-clause-applied c s index one =
     let inside : c.args.targets < length u = subst (λ n. c.args.targets < n) (sym (alike_long u t c.loop-at.invariant.alike)) c.requires.targets in
     let row : c.index-in-loop-at.result.now ≡ row_of u c.args.targets =
     row_is u c.args.targets c.index-in-loop-at.result.now inside c.index-in-loop-at.ensures in
-    ended s c.args.targets c.args.from c.loop-at.at t c.args.self.now.waiting u c.loop-at.self.waiting c.loop-at.changed is (λ still r late within.
-    ap (λ x. row_has x c.args.targets r) (sym ((is.grown 0).quiet still)) ∙ sym (ap (λ l. has l r) row) ∙ c.in_default.ensures r late)
+    ended s c.args.targets c.args.from c.loop-at.at t c.args.self.now.waiting u c.loop-at.self.waiting c.loop-at.changed is (λ r late within.
+    sym (ap (λ l. has l r) row) ∙ c.in_default.ensures r late)
 
 pub returns-then-target-count-clause-applied : goal.returns-then-target-count-clause-applied
 returns-then-target-count-clause-applied c s index one =
@@ -29,9 +28,8 @@ returns-then-target-count-clause-applied c s index one =
     let inside : c.args.targets < length u = subst (λ n. c.args.targets < n) (sym same) c.requires.targets in
     let row : c.index-in-loop-at.result.now ≡ row_of u c.args.targets =
     row_is u c.args.targets c.index-in-loop-at.result.now inside c.index-in-loop-at.ensures in
-    ended s c.args.targets c.args.from c.loop-at.at t c.args.self.now.waiting u c.loop-at.self.waiting c.loop-at.changed is (λ still r late within.
-    ap (λ x. row_has x c.args.targets r) (sym ((is.grown 0).quiet still)) ∙ sym (ap (λ l. has l r) row)
-    ∙ c.in-Some.ensures.2 r late (omega (arith, within, same, c.loop-at.invariant.rows, c.if-target-count.true)))
+    ended s c.args.targets c.args.from c.loop-at.at t c.args.self.now.waiting u c.loop-at.self.waiting c.loop-at.changed is (λ r late within.
+    sym (ap (λ l. has l r) row) ∙ c.in-Some.ensures.2 r late (omega (arith, within, c.loop-at.invariant.rows, c.if-target-count.true)))
 
 pub write-changed-requires-clause-more : goal.write-changed-requires-clause-more
 write-changed-requires-clause-more c =
@@ -71,7 +69,7 @@ loop-at-preserved c =
       asked = c.loop-at.invariant.asked;
       storing = λ s index one.
           turn s c.args.targets c.args.from c.loop-at.at target t u v c.args.self.now.waiting c.loop-at.self.waiting c.write-changed.new.self.waiting more
-          c.loop-at.changed c.write-changed.result one c.loop-at.invariant.asked c.in-Some.ensures.0 within
+          c.loop-at.changed c.write-changed.result one c.loop-at.invariant.asked within
           (sym (ap (λ l. has l target) row) ∙ c.in-Some.ensures.1) long (λ k low less. sym (ap (λ l. has l k) row) ∙ c.in-Some.ensures.2 k low less)
           (c.loop-at.invariant.storing s index one)
           (c.write-changed.ensures.written s
@@ -82,6 +80,5 @@ pub returns-clause-applied : goal.returns-clause-applied
 returns-clause-applied c s index one =
     let t = c.args.self.now.rows.items in
     let u = c.loop-at.self.rows.items in
-    let same : length u ≡ length t = alike_long u t c.loop-at.invariant.alike in
     ended s c.args.targets c.args.from c.loop-at.at t c.args.self.now.waiting u c.loop-at.self.waiting c.loop-at.changed
-    (c.loop-at.invariant.storing s index one) (λ still r late within. absurd (omega (arith, late, within, same, c.loop-at.invariant.rows, c.loop-at-test.false)))
+    (c.loop-at.invariant.storing s index one) (λ r late within. absurd (omega (arith, late, within, c.loop-at.invariant.rows, c.loop-at-test.false)))

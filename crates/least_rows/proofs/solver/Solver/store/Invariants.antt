@@ -1,5 +1,4 @@
-use Rattle.std.proofs.Common.{◌≡◌, ℕ, ◌-◌, ◌<◌, ◌≤◌, [], true, false, IsTrue, Contains, length, get_or}
-use Rattle.dfi_base.specs.Bits.{has}
+use Rattle.std.proofs.Common.{◌≡◌, ◌-◌, [], Contains, length, get_or}
 use Rattle.least_rows.specs.declared.rules.Rule.{Rule}
 use Rattle.least_rows.specs.declared.rules.System.{System}
 use Rattle.least_rows.specs.Solutions.{IsAlike}

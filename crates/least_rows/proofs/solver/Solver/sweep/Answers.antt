@@ -1,4 +1,4 @@
-use Rattle.std.proofs.Common.{◌≡◌, ◌<◌, true, false, length, ap, sym, ◌∙◌, subst, arith}
+use Rattle.std.proofs.Common.{length}
 use Rattle.least_rows.proofs.Writing.{further, none_both}
 use Rattle.least_rows.proofs.Visiting.{swept, had_within}
 use Rattle.least_rows.proofs.solver.Solver.sweep.Goals as goal

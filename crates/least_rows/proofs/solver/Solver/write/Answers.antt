@@ -2,9 +2,9 @@ use Rattle.std.proofs.lemmas.List.Elements.{All-get_or}
 use Rattle.dfi_base.proofs.RowLaws.{length_joined}
 use Rattle.least_rows.proofs.Writing.{alike_set}
 use Rattle.least_rows.proofs.Gathering.{write_done, row_is, list_is}
-use Rattle.std.proofs.Common.{◌≡◌, ◌<◌, [], length, get_or, ap, sym, ◌∙◌, subst, IsTrue, Contains}
+use Rattle.std.proofs.Common.{◌≡◌, ◌<◌, [], length, ap, sym, ◌∙◌, subst, IsTrue, Contains}
 use Rattle.least_rows.specs.Rules.{row_of, row_has}
-use Rattle.dfi_base.specs.Bits.{has, joined}
+use Rattle.dfi_base.specs.Bits.{joined}
 use Rattle.least_rows.proofs.solver.Solver.write.Goals as goal
 
 pub returns-then-changed-clause-alike : goal.returns-then-changed-clause-alike
