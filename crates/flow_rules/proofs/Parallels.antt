@@ -40,7 +40,7 @@ has_lines c f r listed = by (slice_get c.funs f) refl listed
     by (Some fun) is there = (fun, is)
 
 -- each has an instruction
-enters : (c : Code) → GoodForm c → (f : ℕ) → f < length c.funs → (fun : Fun) → IsPoint c (point_at f 0)
+pub enters : (c : Code) → GoodForm c → (f : ℕ) → f < length c.funs → (fun : Fun) → IsPoint c (point_at f 0)
 enters c good f low d =
     let is = slice_get-get_or c.funs f d low in
     let last = (good.code f (get_or c.funs f d) is).last in
@@ -48,7 +48,7 @@ enters c good f low d =
     omega (arith, within, ap length (lines_are c f (get_or c.funs f d) is))
 
 -- and so has each that is called
-called_enters : (c : Code) → GoodForm c → (p : Point) (f : ℕ) → calls_fun f (instr_at c p) ≡ true → IsPoint c (point_at f 0)
+pub called_enters : (c : Code) → GoodForm c → (p : Point) (f : ℕ) → calls_fun f (instr_at c p) ≡ true → IsPoint c (point_at f 0)
 called_enters c good p f calls = by (instr_at c p) refl calls
   where
     by : (i : Instr) → instr_at c p ≡ i → calls_fun f i ≡ true → IsPoint c (point_at f 0)

@@ -5,7 +5,7 @@ use Rattle.tac_ir.specs.Regions.{Region, regions_of}
 use Rattle.flow_rules.specs.Touches.DefTouches.{starting, made}
 use Rattle.flow_rules.specs.Reaches.Reaches.{starts, makes, keeps, joins_one, joins_all}
 use Rattle.flow_rules.specs.Laws.{WhatReachesIsAFact}
-use Rattle.flow_rules.proofs.Facts.{facts_touched}
+use Rattle.flow_rules.proofs.FactPairs.{facts_touched}
 use Rattle.flow_rules.proofs.Parallels.{fork_at}
 
 -- a fork has a branch

@@ -58,7 +58,7 @@ vars_taken (x ∷ funs) (suc f) fun found =
 
 -- Globals.
 
-abbrev sites_of : Code → List ℕ
+abbrev pub sites_of : Code → List ℕ
 sites_of c = map (λ (s : Site). s.shape) c.sites
 
 pub global_more : (c : Code) (v : ℕ) (d : Global) → v < length c.globals → global_node c (v + 1) ≡ global_node c v + shape_nodes c (get_or c.globals v d).shape

@@ -14,6 +14,9 @@ pub mod ClassOf
 pub mod HasSets
 pub mod HasClasses
 pub mod Removed
+pub mod ReachRows
+pub mod FirstOpen
+pub mod IsFactsOf
 pub mod IsBuilt
 pub mod Accepted
 pub mod Laws

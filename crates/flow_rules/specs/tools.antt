@@ -1,2 +1,12 @@
 pub mod EndsSomewhere
 pub mod Made
+pub mod Spots
+pub mod Coming
+pub mod Added
+pub mod RowsBefore
+pub mod PointRules
+pub mod Reached
+pub mod Killed
+pub mod ReachRules
+pub mod Branches
+pub mod Scan

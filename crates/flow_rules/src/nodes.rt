@@ -2,7 +2,7 @@ ghost use Rattle.std.specs.Prelude.{◌≡◌, ◌+◌, ◌<◌, ◌≤◌, ◌^
 ghost use Rattle.tac_ir.specs.Counts.{shape_nodes, vars_in_funs};
 ghost use Rattle.tac_ir.specs.GoodForm.{GoodForm};
 ghost use Rattle.tac_ir.specs.Layout.{parts_of, vars_of, shapes_of_globals};
-ghost use Rattle.tac_ir.specs.Nodes.{global_node, var_node, part_node, nodes_along, place_node};
+ghost use Rattle.tac_ir.specs.Nodes.{global_node, var_node, site_node, link_leaf, part_node, nodes_along, place_node};
 ghost use Rattle.tac_ir.specs.Places.{IsPlace};
 ghost use Rattle.flow_rules.specs.tools.EndsSomewhere.{EndsSomewhere};
 
@@ -26,9 +26,8 @@ pub fn place_node(c: &Code, fun: u32, place: &Place) -> u32
     }
 }
 
-// The node of a global.
-
-fn global_node(c: &Code, var: u32) -> u32
+/// The node of a global.
+pub(crate) fn global_node(c: &Code, var: u32) -> u32
     requires form { GoodForm c.now }
     requires var { var ≤ length c.now.globals }
     ensures { result ≡ global_node c.now var }
@@ -47,12 +46,53 @@ fn var_node(c: &Code, fun: u32, var: u32) -> u32
     requires var { var < length (vars_of c.now fun) }
     ensures { result ≡ var_node c.now fun var }
 {
+    let vars = c.funs.as_slice()[fun as usize].vars.as_slice();
+    fun_node(c, fun) + nodes_of_all(c, &vars[..var as usize])
+}
+
+// Where the nodes of the variables of a function begin.
+fn fun_node(c: &Code, fun: u32) -> u32
+    requires form { GoodForm c.now }
+    requires fun { fun ≤ length c.now.funs }
+    ensures { result ≡ var_node c.now fun 0 }
+{
     let mut node = global_node(c, c.globals.len() as u32);
-    let funs = c.funs.as_slice();
-    for before in &funs[..fun as usize] {
+    for before in &c.funs.as_slice()[..fun as usize] {
         node += nodes_of_all(c, before.vars.as_slice());
     }
-    node + nodes_of_all(c, &funs[fun as usize].vars.as_slice()[..var as usize])
+    node
+}
+
+/// The first node of a heap site.
+pub fn site_node(c: &Code, site: u32) -> u32
+    requires form { GoodForm c.now }
+    requires site { site ≤ length c.now.sites }
+    ensures { result ≡ site_node c.now site }
+{
+    let mut node = fun_node(c, c.funs.len() as u32);
+    for before in &c.sites.as_slice()[..site as usize] {
+        node += shape_nodes(c, before.shape);
+    }
+    node
+}
+
+/// The return link of a function, as a leaf.
+pub(crate) fn link_leaf(c: &Code, fun: u32) -> u32
+    requires form { GoodForm c.now }
+    requires fun { fun < length c.now.funs }
+    ensures { result ≡ link_leaf c.now fun }
+{
+    site_node(c, c.sites.len() as u32) + fun
+}
+
+/// How far the node of a part of a struct stands behind that of the struct.
+pub fn part_node(c: &Code, shape: u32, k: u32) -> u32
+    requires form { GoodForm c.now }
+    requires fits { shape_nodes c.now shape < 2 ^ 32 }
+    requires part { k < length (parts_of c.now shape) }
+    ensures { result ≡ part_node c.now shape k }
+{
+    1 + nodes_of_all(c, &parts_of(c, shape)[..k as usize])
 }
 
 // How far the node at the end of a path stands behind that of a shape.
@@ -96,8 +136,8 @@ fn nodes_of_all(c: &Code, shapes: &[u32]) -> u32
     nodes
 }
 
-// The nodes of a shape, which names earlier ones alone.
-fn shape_nodes(c: &Code, shape: u32) -> u32
+/// How many nodes a shape has; it names earlier ones alone.
+pub(crate) fn shape_nodes(c: &Code, shape: u32) -> u32
     requires form { GoodForm c.now }
     requires fits { shape_nodes c.now shape < 2 ^ 32 }
     ensures { result ≡ shape_nodes c.now shape }

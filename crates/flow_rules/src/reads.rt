@@ -66,7 +66,8 @@ fn makes_read(instr: &Instr, read: u32) -> bool
     }
 }
 
-fn makes_def(instr: &Instr, def: u32) -> bool
+/// Whether an instruction makes a definition.
+pub(crate) fn makes_def(instr: &Instr, def: u32) -> bool
     ensures { IsTrue result ↔ (new_def instr.now ≡ Some def) }
 {
     match instr {

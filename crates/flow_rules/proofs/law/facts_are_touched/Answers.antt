@@ -1,4 +1,4 @@
-use Rattle.flow_rules.proofs.Facts.{facts_touched}
+use Rattle.flow_rules.proofs.FactPairs.{facts_touched}
 use Rattle.flow_rules.proofs.ReachFacts.{reach_fact}
 use Rattle.flow_rules.proofs.law.facts_are_touched.Goals as goal
 
