@@ -1,0 +1,12 @@
+mod Numbers
+mod Inside
+mod Masked
+mod Marking
+mod Named
+mod Gathered
+mod Sound
+mod Complete
+mod Solved
+mod Fitting
+mod Reading
+mod Keyed

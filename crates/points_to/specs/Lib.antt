@@ -1,0 +1,4 @@
+pub mod Rows
+pub mod Systems
+pub mod Laws
+pub mod tools

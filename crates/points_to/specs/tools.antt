@@ -1,0 +1,4 @@
+pub mod RowMaps
+pub mod Here
+pub mod Marked
+pub mod Entries
