@@ -1,0 +1,3 @@
+pub mod MakingRows
+pub mod FoundRows
+pub mod GoodModules

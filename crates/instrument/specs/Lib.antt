@@ -1,0 +1,2 @@
+pub mod Instruments
+pub mod tools
