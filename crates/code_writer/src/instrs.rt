@@ -6,6 +6,7 @@ ghost use Rattle.std.specs.String.{string_bytes};
 ghost use Rattle.tac_ir.specs.declared.code.Instr.{Instr};
 ghost use Rattle.line_format.specs.Lines.{line as line_text};
 ghost use Rattle.text_law.specs.ModuleText.{lined_words, temp as temp_text};
+ghost use Rattle.text_law.specs.IsModule.{Is32Bits, IsLined};
 ghost use Rattle.code_writer.specs.tools.InstrLine.{Adds};
 
 use crate::operands::place;
@@ -23,7 +24,8 @@ fn constant(text: &mut String, at: u32, to: u32, k: i32) -> Result<(), Memory>
 
 /// A word and a temporary.
 fn one_temp(text: &mut String, at: u32, word: &str, temp: u32) -> Result<(), Memory>
-    ensures { OnOk result (string_bytes text.new ≡ string_bytes text.old ++ line_text (decimal at ∷ word.now ∷ temp_text temp ∷ []) []) }
+    ensures text { OnOk result (string_bytes text.new ≡ string_bytes text.old ++ line_text (decimal at ∷ word.now ∷ temp_text temp ∷ []) []) }
+    ensures fit { OnOk result (Is32Bits at × Is32Bits temp) }
 {
     writeln!(text, "{at} {word} t{temp}")?;
     Ok(())
@@ -71,7 +73,8 @@ fn temps_and_number(
     b: u32,
     number: u32,
 ) -> Result<(), Memory>
-    ensures { OnOk result (string_bytes text.new ≡ string_bytes text.old ++ line_text (decimal at ∷ word.now ∷ temp_text a ∷ temp_text b ∷ decimal number ∷ []) []) }
+    ensures text { OnOk result (string_bytes text.new ≡ string_bytes text.old ++ line_text (decimal at ∷ word.now ∷ temp_text a ∷ temp_text b ∷ decimal number ∷ []) []) }
+    ensures fit { OnOk result (Is32Bits at × Is32Bits a × Is32Bits b × Is32Bits number) }
 {
     writeln!(text, "{at} {word} t{a} t{b} {number}")?;
     Ok(())
@@ -144,7 +147,8 @@ fn test(text: &mut String, at: u32, a: u32, yes: u32, no: u32) -> Result<(), Mem
 
 /// A word and nothing else.
 fn alone(text: &mut String, at: u32, word: &str) -> Result<(), Memory>
-    ensures { OnOk result (string_bytes text.new ≡ string_bytes text.old ++ line_text (decimal at ∷ word.now ∷ []) []) }
+    ensures text { OnOk result (string_bytes text.new ≡ string_bytes text.old ++ line_text (decimal at ∷ word.now ∷ []) []) }
+    ensures fit { OnOk result (Is32Bits at) }
 {
     writeln!(text, "{at} {word}")?;
     Ok(())
@@ -197,6 +201,8 @@ impl Line for InstrLine {
     type Value = Lined;
 
     ghost words = { lined_words };
+
+    ghost fits = { IsLined };
 
     fn write(text: &mut String, value: &Lined) -> Result<(), Memory> {
         instr_line(text, value.line, &value.instr)

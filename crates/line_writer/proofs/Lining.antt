@@ -1,8 +1,11 @@
 -- Lines are put behind a text.
-use Rattle.std.proofs.Common.{◌≡◌, ℕ, ◌+◌, ◌<◌, List, [], ◌∷◌, ◌++◌, length, drop, get_or, map, refl, sym, ap, ◌∙◌, append_assoc}
-use Rattle.std.specs.List.{flat_map}
-use Rattle.std.proofs.lemmas.List.{drop_more}
-use Rattle.line_format.specs.Lines.{line, lines}
+use Rattle.std.proofs.Common.{◌≡◌, ℕ, suc, ◌+◌, ◌<◌, ◌≤◌, false, List, [], ◌∷◌, ◌++◌, length, drop, take, get_or, map, refl, sym, ap, subst, ◌∙◌, append_assoc, length-append, arith}
+use Rattle.std.specs.Prelude.{slice_index}
+use Rattle.std.specs.List.{All, flat_map}
+use Rattle.std.proofs.lemmas.List.{drop_more, take_more}
+use Rattle.std.proofs.lemmas.List.Elements.{All-push}
+use Rattle.dfi_base.specs.Limits.{file_limit}
+use Rattle.line_format.specs.Lines.{greatest, line, lines, Fit}
 use Rattle.line_writer.specs.Writes.{Writes}
 
 -- what comes behind a line comes behind its newline
@@ -45,3 +48,23 @@ after_ends (p ∷ ps) last tail = append_assoc p (after ps last) tail ∙ ap (λ
 pub joined : (ps : List (List ℕ)) (old last tail mid new all : List ℕ) → mid ≡ old ++ after ps last → new ≡ mid ++ tail → all ≡ last ++ tail → new ≡ old ++ after ps all
 joined ps old last tail mid new all e f g =
     f ∙ (ap (λ z. z ++ tail) e ∙ (append_assoc old (after ps last) tail ∙ ap (λ z. old ++ z) (after_ends ps last tail ∙ ap (λ z. after ps z) (sym g))))
+
+-- a line has a byte
+pub line_some : (ws : List (List ℕ)) (r : List ℕ) → 0 < length (line ws r)
+line_some [] r = omega arith
+line_some (w ∷ []) r = omega (arith, length-append w (10 ∷ r))
+line_some (w ∷ v ∷ ws) r = omega (arith, length-append w (32 ∷ line (v ∷ ws) r))
+
+-- what stands behind a text that is too long is too long
+pub longer : (new tail all : List ℕ) → new ++ tail ≡ all → file_limit < length new → file_limit < length all
+longer new tail all e h = omega (arith, h, length-append new tail, ap length e)
+
+-- one more line, and one more value that fits
+module _ {A : Type 0} (P : A → Type 0) (xs : List A) (i : ℕ) (x : A) (within : i < length xs) (is : x ≡ get_or xs i x) where
+  pub fit_more : All P (take i xs) → P x → All P (take (i + 1) xs)
+  fit_more h p = subst (All P) (sym (take_more xs i x within)) (All-push P (take i xs) (get_or xs i x) h (subst P is p))
+
+-- numbers of 32 bits
+pub any_fit : (xs : List ℕ) → ((k : ℕ) → slice_index xs k ≤ greatest) → Fit false 0 xs
+any_fit [] h = tt
+any_fit (x ∷ xs) h = (omega arith, h 0, any_fit xs (λ k. h (suc k)))

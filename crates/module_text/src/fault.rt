@@ -1,4 +1,3 @@
-use dfi_base::Memory;
 use thiserror::Error;
 
 /// Why bytes are not read as a module.
@@ -14,24 +13,4 @@ pub enum TextFault {
     At { at: u64 },
     #[error("out of memory")]
     Memory,
-}
-
-/// Why a module is not written.
-#[derive(Debug, Drop, Error)]
-pub enum WriteFault {
-    #[error("the text of the module is longer than the limit")]
-    Long,
-    #[error("out of memory")]
-    Memory,
-}
-
-impl From<Memory> for WriteFault {
-    ghost use Rattle.std.specs.Prelude.{◌≡◌};
-    ghost use Rattle.module_text.specs.declared.fault.WriteFault.{WriteFault};
-
-    ghost from_gives = { λ _ e. e ≡ WriteFault.Memory };
-
-    fn from(_: Memory) -> WriteFault {
-        WriteFault::Memory
-    }
 }

@@ -2,6 +2,7 @@
 #![tactic(auto)]
 
 mod fault;
+mod law;
 mod modules;
 mod reading;
 mod rows;
@@ -10,6 +11,8 @@ mod words;
 mod writing;
 mod written;
 
-pub use fault::{TextFault, WriteFault};
+pub use fault::TextFault;
+pub use law::written_is_read;
+pub use line_writer::WriteFault;
 pub use reading::read_module;
 pub use writing::write_module;

@@ -4,16 +4,16 @@ ghost use Rattle.std.specs.Prelude.{◌≡◌, ◌<◌, ◌≤◌, ◌++◌, ◌
 ghost use Rattle.std.specs.String.{string_bytes};
 ghost use Rattle.dfi_base.specs.Limits.{file_limit};
 ghost use Rattle.line_format.specs.Lines.{line};
-ghost use Rattle.line_writer.specs.Writes.{Writes};
+ghost use Rattle.line_writer.specs.Writes.{Writes, Passes};
+ghost use Rattle.line_writer.specs.declared.fault.WriteFault.{WriteFault};
 ghost use Rattle.text_law.specs.ModuleText.{module_text, text_then, version};
-ghost use Rattle.module_text.specs.declared.fault.WriteFault.{WriteFault};
+ghost use Rattle.text_law.specs.IsModule.{IsModule};
+ghost use Rattle.text_law.specs.IsText.{IsText};
 
-use crate::fault::WriteFault;
-use crate::written::{ClassLine, PointsLine, ReachLine, sets};
+use crate::written::{classes, points, reach, sets};
 use code_writer::code;
 use dfi_base::Memory;
-use dfi_base::limits::FILE_LIMIT;
-use line_writer::section;
+use line_writer::{WriteFault, within_limit};
 use std::alloc::Global;
 use tac_ir::{Module, Size};
 
@@ -34,28 +34,29 @@ fn last_line(text: &mut String) -> Result<(), Memory>
     Ok(())
 }
 
-fn whole_module(text: &mut String, m: &Module) -> Result<(), Memory>
-    ensures { OnOk result (Writes (text_then m.now) (string_bytes text.old) (string_bytes text.new)) }
+fn whole_module(text: &mut String, m: &Module) -> Result<(), WriteFault>
+    ensures text { OnOk result (Writes (text_then m.now) (string_bytes text.old) (string_bytes text.new)) }
+    ensures long { IfErr result (λ fault. fault ≡ WriteFault.Long → Passes (text_then m.now) (string_bytes text.old)) }
+    ensures fit { OnOk result (IsModule m.now) }
 {
     first_line(text, m.size)?;
     code(text, &m.code)?;
-    section::<ClassLine>(text, "definitions", m.classes.list.as_slice())?;
+    classes(text, m.classes.list.as_slice())?;
     sets(text, m.removed.as_slice(), m.sets.lists.as_slice())?;
-    section::<PointsLine>(text, "points", m.points.rows.as_slice())?;
-    section::<ReachLine>(text, "reach", m.reach.as_slice())?;
-    last_line(text)
+    points(text, m.points.rows.as_slice())?;
+    reach(text, m.reach.as_slice())?;
+    last_line(text)?;
+    Ok(())
 }
 
-/// The text of the module.
+/// The text of the module. It is given up with the first line that ends behind the limit.
 pub fn write_module(alloc: Global, m: &Module) -> Result<Vec<u8>, WriteFault>
-    ensures text { IfOk result (λ bytes. bytes.items ≡ module_text m.now) }
-    ensures short { IfOk result (λ bytes. length (module_text m.now) ≤ file_limit) }
+    ensures text { IfOk result (λ bytes. IsText bytes.items m.now) }
+    ensures short { IfOk result (λ bytes. length bytes.items ≤ file_limit) }
     ensures long { IfErr result (λ fault. fault ≡ WriteFault.Long → file_limit < length (module_text m.now)) }
 {
     let mut text = String::new(alloc);
     whole_module(&mut text, m)?;
-    if text.len() as u64 > FILE_LIMIT {
-        return Err(WriteFault::Long);
-    }
+    within_limit(&text)?;
     Ok(text.into_bytes())
 }

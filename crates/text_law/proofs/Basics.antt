@@ -2,6 +2,8 @@
 use Rattle.std.proofs.Common.{◌≡◌, ℕ, zero, suc, ◌<◌, ◌≤◌, Bool, true, false, List, [], ◌∷◌, ◌++◌, length, Option, Some, None, refl, sym, ap, subst, ◌∙◌, append_assoc, length-append, arith}
 use Rattle.std.specs.Prelude.{codes}
 use Rattle.std.specs.Fmt.{decimal}
+use Rattle.std.specs.List.{All}
+use Rattle.std.proofs.lemmas.List.Elements.{All-head, All-tail}
 use Rattle.tac_ir.specs.declared.code.Place.{Place}
 use Rattle.line_format.specs.Lines.{greatest, numbers_text, Fit}
 use Rattle.line_format.specs.tools.Format.{Format, Has}
@@ -14,9 +16,14 @@ use Rattle.line_format.proofs.Formats.{none_some, some_is}
 use Rattle.line_format.proofs.Spells.{Spells, number_spells, behind, paired}
 use Rattle.line_format.proofs.Behind.{listed}
 use Rattle.text_law.specs.ModuleText as text
-use Rattle.text_law.specs.IsModule.{Small, IsPlace}
+use Rattle.text_law.specs.IsModule.{Is32Bits, IsPlace, Each}
 use Rattle.text_law.specs.tools.Opcodes.{place_words}
 use Rattle.text_law.specs.tools.Instrs as form
+
+-- what holds of each element, by index, holds of each
+pub each_of : {A : Type 0} (P : A → Type 0) (xs : List A) → All P xs → Each P xs
+each_of P [] all = tt
+each_of P (x ∷ xs) all = (All-head P x xs all, each_of P xs (All-tail P x xs all))
 
 -- the same texts, told otherwise
 pub retold : {A : Type 0} {f : Format A} {Is : A → Type 0} {put more : A → List ℕ → List ℕ} → Spells f Is put → ((a : A) → Is a → (r : List ℕ) → put a r ≡ more a r) → Spells f Is more
@@ -26,12 +33,12 @@ retold {f = f} s same = record {
   is = λ ts a r h. let (i, w) = s.is ts a r h in (i, w ∙ same a i r);
 }
 
-pub plain : (c : ℕ) → is_digit c ≡ false → Spells (form.number c) Small (λ n r. decimal n ++ c ∷ r)
+pub plain : (c : ℕ) → is_digit c ≡ false → Spells (form.number c) Is32Bits (λ n r. decimal n ++ c ∷ r)
 plain c d =
     let s = number_spells c 0 greatest d (omega arith) (omega arith) in
     record { good = s.good; has = λ n le r. s.has n (omega arith, le) r; is = λ ts n r h. let (i, w) = s.is ts n r h in (i.1, w) }
 
-pub temp : (c : ℕ) → is_digit c ≡ false → Spells (form.temp c) Small (λ n r. text.temp n ++ c ∷ r)
+pub temp : (c : ℕ) → is_digit c ≡ false → Spells (form.temp c) Is32Bits (λ n r. text.temp n ++ c ∷ r)
 temp c d = behind (plain c d) (codes "t")
 
 pub pair : {A B : Type 0} {f : Format A} {g : Format B} {P : A → Type 0} {Q : B → Type 0} {t : A → List ℕ → List ℕ} {u : B → List ℕ → List ℕ} → Spells f P t → Spells g Q u

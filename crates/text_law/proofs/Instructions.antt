@@ -15,7 +15,7 @@ use Rattle.line_format.proofs.OneWord.{Filled, has_of}
 use Rattle.line_format.proofs.Spells.{Spells, signed_spells, behind}
 use Rattle.line_format.proofs.Behind.{listed, with_option, IsOne, one_text, led, line_of_list}
 use Rattle.text_law.specs.ModuleText as text
-use Rattle.text_law.specs.IsModule.{Small, AreSmall, IsPlace, IsSome, IsInstr, IsLined}
+use Rattle.text_law.specs.IsModule.{Is32Bits, Are32Bits, IsPlace, IsSome, IsInstr, IsLined}
 use Rattle.text_law.specs.declared.opcode.Opcode.{Opcode}
 use Rattle.text_law.specs.tools.Opcodes.{opcodes, un_words, bin_words, div_words, equalities}
 use Rattle.text_law.specs.tools.Instrs as form
@@ -106,16 +106,16 @@ equal_spells = table equalities (λ b. Unit {0}) text.equality 32 tt refl ((tt, 
 
 -- ---- the parts of instructions
 
-t32 : Spells (form.temp 32) Small (λ n r. text.temp n ++ 32 ∷ r)
+t32 : Spells (form.temp 32) Is32Bits (λ n r. text.temp n ++ 32 ∷ r)
 t32 = temp 32 refl
 
-t10 : Spells (form.temp 10) Small (λ n r. text.temp n ++ 10 ∷ r)
+t10 : Spells (form.temp 10) Is32Bits (λ n r. text.temp n ++ 10 ∷ r)
 t10 = temp 10 refl
 
-n32 : Spells (form.number 32) Small (λ n r. decimal n ++ 32 ∷ r)
+n32 : Spells (form.number 32) Is32Bits (λ n r. decimal n ++ 32 ∷ r)
 n32 = plain 32 refl
 
-n10 : Spells (form.number 10) Small (λ n r. decimal n ++ 10 ∷ r)
+n10 : Spells (form.number 10) Is32Bits (λ n r. decimal n ++ 10 ∷ r)
 n10 = plain 10 refl
 
 p32 : Spells (form.place 32) IsPlace (λ p r. text.place p ++ 32 ∷ r)
@@ -148,13 +148,13 @@ numbers_line w xs r = sym (line_of_list [] w xs r) ∙ ap (λ z. line (w ∷ z) 
 temps_line : (w xs r : List ℕ) → w ++ numbers_text (codes "t") 32 10 xs r ≡ line (w ∷ map text.temp xs) r
 temps_line w xs r = sym (line_of_list (codes "t") w xs r) ∙ ap (λ z. line (w ∷ z) r) (temps_led xs)
 
-fork_spells : Spells (form.fork) (λ p. Small p.0 × AreSmall p.1) (λ p r. decimal p.0 ++ numbers_text [] 32 10 p.1 r)
+fork_spells : Spells (form.fork) (λ p. Is32Bits p.0 × Are32Bits p.1) (λ p r. decimal p.0 ++ numbers_text [] 32 10 p.1 r)
 fork_spells = listed 32 10 spaced [] false
 
-args_spells : Spells (form.args) (λ p. Small p.0 × AreSmall p.1) (λ p r. decimal p.0 ++ numbers_text (codes "t") 32 10 p.1 r)
+args_spells : Spells (form.args) (λ p. Is32Bits p.0 × Are32Bits p.1) (λ p r. decimal p.0 ++ numbers_text (codes "t") 32 10 p.1 r)
 args_spells = listed 32 10 spaced (codes "t") false
 
-ret_spells : Spells (chain (form.letter) (λ u. form.option)) (λ p. Small p.0 × IsOne 32 10 spaced p.1) (λ p r. codes "t" ++ (decimal p.0 ++ one_text 32 10 spaced p.1 r))
+ret_spells : Spells (chain (form.letter) (λ u. form.option)) (λ p. Is32Bits p.0 × IsOne 32 10 spaced p.1) (λ p r. codes "t" ++ (decimal p.0 ++ one_text 32 10 spaced p.1 r))
 ret_spells = behind (with_option 32 10 spaced) (codes "t")
 
 some_of : (o : Option ℕ) → IsOne 32 10 spaced o → IsSome o
@@ -211,7 +211,7 @@ opcodes_filled w o i = (row_in IsWord spelled i).1
 begins : (w : List ℕ) (o : Opcode) → In w o opcodes → (i : Instr) (x r : List ℕ) → Has (form.body o) x i r → Has form.instr (w ++ x) i r
 begins w o j i x r h = (o, x, has_of w o opcodes refl opcodes_filled j x, h)
 
-bin_has : (to : ℕ) (op : BinOp) (a b : ℕ) (d : Bool) → text.is_div op ≡ d → Small to × (Small a × Small b) → (r : List ℕ)
+bin_has : (to : ℕ) (op : BinOp) (a b : ℕ) (d : Bool) → text.is_div op ≡ d → Is32Bits to × (Is32Bits a × Is32Bits b) → (r : List ℕ)
     → Has form.instr (line (elim d as (λ p. List ℕ) [ true ↦ codes "div" | false ↦ codes "bin" ] ∷ text.temp to ∷ text.bin_word op ∷ text.temp a ∷ text.temp b ∷ []) r) (Instr.Bin to op a b) r
 bin_has to op a b true e (i, j) r =
     begins (codes "div ") Opcode.Div (in_nth 4 refl) (Instr.Bin to op a b) _ r ((to, (op, (a, b))), r, (pair t32 (pair div_spells (pair t32 t10))).has (to, (op, (a, b))) (i, (e, j)) r, (refl, refl))

@@ -13,7 +13,7 @@ use Rattle.line_format.specs.tools.Keys.{Pair, after_pair}
 use Rattle.line_format.proofs.Digits.{false_true}
 use Rattle.line_format.proofs.Pairs.{From, Before, from_after, after_by}
 use Rattle.line_format.proofs.Keyed.{AreSome, AreRows}
-use Rattle.text_law.specs.IsModule.{AreSmall, IsKey, IsPointsRow, IsReachRow, Each}
+use Rattle.text_law.specs.IsModule.{Are32Bits, IsKey, IsPointsRow, IsReachRow, Each}
 use Rattle.text_law.specs.tools.Keys.{NextKey, temps, nodes, next_key, next_point, point_key, key}
 use Rattle.text_law.specs.tools.Whole.{points_row, reach_row}
 use Rattle.text_law.proofs.Keys.{FromPoint, PointRoom, point_text, OpenKey, FromKey, KeyRoom, key_text}
@@ -28,28 +28,28 @@ joined {b = b} e f = ap (λ z. z && b) e ∙ f
 
 -- ---- members
 
-pub rising_is : (least : ℕ) (xs : List ℕ) → Fit true least xs → AreSmall xs × (is_chain nat_lt xs ≡ true)
+pub rising_is : (least : ℕ) (xs : List ℕ) → Fit true least xs → Are32Bits xs × (is_chain nat_lt xs ≡ true)
 rising_is least [] fit = (tt, refl)
 rising_is least (x ∷ []) (low, high, u) = ((omega arith, high, tt), refl)
 rising_is least (x ∷ y ∷ ys) (low, high, up) =
     let (small, e) = rising_is (suc x) (y ∷ ys) up in
     ((omega arith, high, small), joined (lt-ltb x y up.0) e)
 
-pub is_rising : (least : ℕ) (x : ℕ) (xs : List ℕ) → least ≤ x → AreSmall (x ∷ xs) → is_chain nat_lt (x ∷ xs) ≡ true → Fit true least (x ∷ xs)
+pub is_rising : (least : ℕ) (x : ℕ) (xs : List ℕ) → least ≤ x → Are32Bits (x ∷ xs) → is_chain nat_lt (x ∷ xs) ≡ true → Fit true least (x ∷ xs)
 is_rising least x [] low small e = (low, small.1, tt)
 is_rising least x (y ∷ ys) low small e =
     let (f, g) = both (nat_lt x y) (is_chain nat_lt (y ∷ ys)) e in
     (low, small.1, is_rising (suc x) y ys (let h : suc x ≤ y = omega (arith, ltb-true x y f) in h) small.2 g)
 
-pub set_rising : (xs : List ℕ) → AreSmall xs → is_chain nat_lt xs ≡ true → Fit true 0 xs
+pub set_rising : (xs : List ℕ) → Are32Bits xs → is_chain nat_lt xs ≡ true → Fit true 0 xs
 set_rising [] small e = tt
 set_rising (x ∷ xs) small e = is_rising 0 x xs (omega arith) small e
 
-pub row_is : (xs : List ℕ) → AreSome xs → AreSmall xs × (is_row xs ≡ true)
+pub row_is : (xs : List ℕ) → AreSome xs → Are32Bits xs × (is_row xs ≡ true)
 row_is [] i = absurd i
 row_is (x ∷ xs) fit = let (small, e) = rising_is 0 (x ∷ xs) fit in (small, e)
 
-pub is_some_row : (xs : List ℕ) → AreSmall xs → is_row xs ≡ true → AreSome xs
+pub is_some_row : (xs : List ℕ) → Are32Bits xs → is_row xs ≡ true → AreSome xs
 is_some_row [] small e = false_true e
 is_some_row (x ∷ xs) small e = is_rising 0 x xs (omega arith) small e
 
@@ -119,7 +119,7 @@ points_are s ((k, ms) ∷ (j, ns) ∷ xs) (i, some, is) =
     let (each, rows, chain) = points_are (next_key k) ((j, ns) ∷ xs) is in
     (((key_small s k i, small), each), joined e rows, joined (key_after s k j i is.0) chain)
 
-pub are_points : (s : NextKey) (k : Key) (ms : List ℕ) (rows : List PointsRow) → FromKey s k → AreSmall ms → is_row ms ≡ true → Each IsPointsRow rows → list_all (λ r. is_row r.nodes) rows ≡ true
+pub are_points : (s : NextKey) (k : Key) (ms : List ℕ) (rows : List PointsRow) → FromKey s k → Are32Bits ms → is_row ms ≡ true → Each IsPointsRow rows → list_all (λ r. is_row r.nodes) rows ≡ true
     → is_chain (λ a b. key_before a.key b.key) (points_row (k, ms) ∷ rows) ≡ true → AreRows key next_key OpenKey FromKey KeyRoom key_text s ((k, ms) ∷ map (λ r. (r.key, r.nodes)) rows)
 are_points s k ms [] i small e each all chain = (i, is_some_row ms small e, tt)
 are_points s k ms (r ∷ rows) i small e ((ik, smalls), each) all chain =
@@ -137,7 +137,7 @@ reach_are s ((p, ms) ∷ (q, ns) ∷ xs) (i, some, is) =
     let j : FromPoint (next_point p) q = is.0 in
     ((((i.1, i.2), small), each), joined e rows, joined (before_true (p.fun, p.at) (q.fun, q.at) (from_after (p.fun, p.at) (q.fun, q.at) i.2 j.2 j)) chain)
 
-pub are_reach : (s : Pair) (p : Point) (ms : List ℕ) (rows : List ReachRow) → FromPoint s p → AreSmall ms → is_row ms ≡ true → Each IsReachRow rows → list_all (λ r. is_row r.facts) rows ≡ true
+pub are_reach : (s : Pair) (p : Point) (ms : List ℕ) (rows : List ReachRow) → FromPoint s p → Are32Bits ms → is_row ms ≡ true → Each IsReachRow rows → list_all (λ r. is_row r.facts) rows ≡ true
     → is_chain (λ a b. point_before a.point b.point) (reach_row (p, ms) ∷ rows) ≡ true → AreRows point_key next_point Open FromPoint PointRoom point_text s ((p, ms) ∷ map (λ r. (r.point, r.facts)) rows)
 are_reach s p ms [] i small e each all chain = (i, is_some_row ms small e, tt)
 are_reach s p ms (r ∷ rows) i small e ((ip, smalls), each) all chain =

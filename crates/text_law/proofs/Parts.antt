@@ -14,17 +14,17 @@ use Rattle.line_format.proofs.Tables.{In, one_is, one_good}
 use Rattle.line_format.proofs.OneWord.{has_of}
 use Rattle.line_format.proofs.Spells.{Spells, signed_spells, any_spells, behind, mapped, many, All, puts}
 use Rattle.text_law.specs.ModuleText as text
-use Rattle.text_law.specs.IsModule.{Small, AreSmall, IsShape, IsGlobal, IsSite, IsFun, IsCode, IsLined, Each, Counted}
+use Rattle.text_law.specs.IsModule.{Is32Bits, Are32Bits, IsShape, IsGlobal, IsSite, IsFun, IsCode, IsLined, Each, Counted}
 use Rattle.text_law.specs.declared.opcode.ShapeWord.{ShapeWord}
 use Rattle.text_law.specs.tools.Instrs as instr_form
 use Rattle.text_law.specs.tools.Parts as form
 use Rattle.text_law.proofs.Basics.{plain, pair, in_nth, Rows, row_in}
 use Rattle.text_law.proofs.Instructions.{spaced, numbers_line, lined}
 
-n32 : Spells (instr_form.number 32) Small (λ n r. decimal n ++ 32 ∷ r)
+n32 : Spells (instr_form.number 32) Is32Bits (λ n r. decimal n ++ 32 ∷ r)
 n32 = plain 32 refl
 
-n10 : Spells (instr_form.number 10) Small (λ n r. decimal n ++ 10 ∷ r)
+n10 : Spells (instr_form.number 10) Is32Bits (λ n r. decimal n ++ 10 ∷ r)
 n10 = plain 10 refl
 
 -- ---- shapes
@@ -44,7 +44,7 @@ words = ((refl, omega arith), ((refl, omega arith), ((refl, omega arith), ((refl
 begins : (w : List ℕ) (o : ShapeWord) → In w o form.shape_words → (s : Shape) (x r : List ℕ) → Has (form.shape_body o) x s r → Has form.shape (w ++ x) s r
 begins w o j s x r h = (o, x, has_of w o form.shape_words refl (λ v b k. (row_in IsWord words k).1) j x, h)
 
-parts : Spells (any_members [] 32 10 false) AreSmall (λ xs r. numbers_text [] 32 10 xs r)
+parts : Spells (any_members [] 32 10 false) Are32Bits (λ xs r. numbers_text [] 32 10 xs r)
 parts = any_spells [] 32 10 false spaced
 
 shape_has : (s : Shape) → IsShape s → (r : List ℕ) → Has form.shape (line (text.shape_words s) r) s r
@@ -127,23 +127,23 @@ module _ {A : Type 0} {f : Format A} {Is : A → Type 0} (words_of : A → List 
     is = λ ts xs r (n, m, h, g).
         let (small, t) = (counted w).is ts n m h in
         let ((count, is), u) = (repeated n).is m xs r g in
-        ((subst (λ z. Small z) (sym count) small, is), t ∙ append_assoc w (32 ∷ []) (decimal n ++ 10 ∷ m) ∙ (λ i. w ++ 32 ∷ (decimal (sym count i) ++ 10 ∷ u i)));
+        ((subst (λ z. Is32Bits z) (sym count) small, is), t ∙ append_assoc w (32 ∷ []) (decimal n ++ 10 ∷ m) ∙ (λ i. w ++ 32 ∷ (decimal (sym count i) ++ 10 ∷ u i)));
   }
     where
-      counted : (w : List ℕ) → Spells (form.behind (w ++ 32 ∷ []) (instr_form.number 10)) Small (λ n r. (w ++ 32 ∷ []) ++ (decimal n ++ 10 ∷ r))
+      counted : (w : List ℕ) → Spells (form.behind (w ++ 32 ∷ []) (instr_form.number 10)) Is32Bits (λ n r. (w ++ 32 ∷ []) ++ (decimal n ++ 10 ∷ r))
       counted w = behind n10 (w ++ 32 ∷ [])
 
 -- ---- functions
 
-var : Spells form.var Small (λ n r. line (text.var_words n) r)
+var : Spells form.var Is32Bits (λ n r. line (text.var_words n) r)
 var = behind n10 (codes "var ")
 
-head : Spells form.head (λ h. Small h.0 × (Small h.1.0 × (Small h.1.1.0 × Small h.1.1.1)))
+head : Spells form.head (λ h. Is32Bits h.0 × (Is32Bits h.1.0 × (Is32Bits h.1.1.0 × Is32Bits h.1.1.1)))
     (λ h r. codes "function " ++ (decimal h.0 ++ 32 ∷ (decimal h.1.0 ++ 32 ∷ (decimal h.1.1.0 ++ 32 ∷ (decimal h.1.1.1 ++ 10 ∷ r)))))
 head = behind (pair n32 (pair n32 (pair n32 n10))) (codes "function ")
 
 bodies : (v n : ℕ) → Spells {A = List ℕ × List Lined} (instr_form.pair (times form.var v) (times instr_form.lined n))
-    (λ p. ((length p.0 ≡ v) × Each Small p.0) × ((length p.1 ≡ n) × Each IsLined p.1)) (λ p r. lines text.var_words p.0 (lines text.lined_words p.1 r))
+    (λ p. ((length p.0 ≡ v) × Each Is32Bits p.0) × ((length p.1 ≡ n) × Each IsLined p.1)) (λ p r. lines text.var_words p.0 (lines text.lined_words p.1 r))
 bodies v n = pair (repeated text.var_words var v) (repeated text.lined_words lined n)
 
 fun : Spells form.fun IsFun (λ f r. text.fun_text f r)
@@ -156,7 +156,7 @@ fun = record {
   is = λ ts f r (h, m, g, (p, n, k, (e, x))).
       let (fits, t) = head.is ts h m g in
       let (((a, b), (c, d)), u) = (bodies h.1.0 h.1.1.0).is m p n k in
-      let is : IsFun (form.fun_of h p) = record { params = fits.0; line = fits.1.1.1; vars = (subst (λ z. Small z) (sym a) fits.1.0, b); code = (subst (λ z. Small z) (sym c) fits.1.1.0, d) } in
+      let is : IsFun (form.fun_of h p) = record { params = fits.0; line = fits.1.1.1; vars = (subst (λ z. Is32Bits z) (sym a) fits.1.0, b); code = (subst (λ z. Is32Bits z) (sym c) fits.1.1.0, d) } in
       let same : ts ≡ text.fun_text (form.fun_of h p) n =
       t ∙ (λ i. codes "function " ++ (decimal h.0 ++ 32 ∷ (decimal (sym a i) ++ 32 ∷ (decimal (sym c i) ++ 32 ∷ (decimal h.1.1.1 ++ 10 ∷ u i))))) in
       subst (λ z. IsFun z × (ts ≡ text.fun_text z r)) e (is, same ∙ ap (λ z. text.fun_text (form.fun_of h p) z) x);
@@ -183,17 +183,17 @@ puts_funs : (xs : List Fun) (r : List ℕ) → puts fun xs r ≡ text.funs_text 
 puts_funs [] r = refl
 puts_funs (x ∷ xs) r = ap (λ z. text.fun_text x z) (puts_funs xs r)
 
-main : Spells (form.behind (codes "main ") (instr_form.number 10)) Small (λ n r. codes "main " ++ (decimal n ++ 10 ∷ r))
+main : Spells (form.behind (codes "main ") (instr_form.number 10)) Is32Bits (λ n r. codes "main " ++ (decimal n ++ 10 ∷ r))
 main = behind n10 (codes "main ")
 
-count : Spells (form.behind (codes "functions ") (instr_form.number 10)) Small (λ n r. codes "functions " ++ (decimal n ++ 10 ∷ r))
+count : Spells (form.behind (codes "functions ") (instr_form.number 10)) Is32Bits (λ n r. codes "functions " ++ (decimal n ++ 10 ∷ r))
 count = behind n10 (codes "functions ")
 
 main_and : (n : ℕ) → Spells {A = ℕ × List Fun} (instr_form.pair (form.behind (codes "main ") (instr_form.number 10)) (times form.fun n))
-    (λ p. Small p.0 × ((length p.1 ≡ n) × All fun p.1)) (λ p r. codes "main " ++ (decimal p.0 ++ 10 ∷ puts fun p.1 r))
+    (λ p. Is32Bits p.0 × ((length p.1 ≡ n) × All fun p.1)) (λ p r. codes "main " ++ (decimal p.0 ++ 10 ∷ puts fun p.1 r))
 main_and n = pair main (many fun (λ f r i. fun_takes f r) n)
 
-funs : Spells form.funs (λ p. Small p.0 × Counted IsFun p.1) (λ p r. text.count (codes "functions") p.1 (line (codes "main" ∷ decimal p.0 ∷ []) (text.funs_text p.1 r)))
+funs : Spells form.funs (λ p. Is32Bits p.0 × Counted IsFun p.1) (λ p r. text.count (codes "functions") p.1 (line (codes "main" ∷ decimal p.0 ∷ []) (text.funs_text p.1 r)))
 funs = record {
   good = (count.good, λ n g. (main_and n).good);
   has = λ p (small, (few, is)) r.
@@ -207,7 +207,7 @@ funs = record {
   is = λ ts p r (n, m, h, g).
       let (few, t) = count.is ts n m h in
       let ((small, (c, is)), u) = (main_and n).is m p r g in
-      ((small, (subst (λ z. Small z) (sym c) few, funs_all p.1 is)), t ∙ (λ i. codes "functions " ++ (decimal (sym c i) ++ 10 ∷ (u ∙ ap (λ z. codes "main " ++ (decimal p.0 ++ 10 ∷ z)) (puts_funs p.1 r)) i)));
+      ((small, (subst (λ z. Is32Bits z) (sym c) few, funs_all p.1 is)), t ∙ (λ i. codes "functions " ++ (decimal (sym c i) ++ 10 ∷ (u ∙ ap (λ z. codes "main " ++ (decimal p.0 ++ 10 ∷ z)) (puts_funs p.1 r)) i)));
 }
 
 -- ---- the code
@@ -229,8 +229,8 @@ code =
 
 -- ---- classes and sets
 
-class : Spells form.class Small (λ n r. line (text.class_words n) r)
+class : Spells form.class Is32Bits (λ n r. line (text.class_words n) r)
 class = behind n10 (codes "class ")
 
-pub classes : Spells (form.section (codes "definitions ") form.class) (Counted Small) (λ xs r. text.section (codes "definitions") text.class_words xs r)
+pub classes : Spells (form.section (codes "definitions ") form.class) (Counted Is32Bits) (λ xs r. text.section (codes "definitions") text.class_words xs r)
 classes = section text.class_words class (codes "definitions")

@@ -24,7 +24,7 @@ use Rattle.line_format.proofs.Keyed.{AreRows, AreSome, rows_text, some_text, key
 use Rattle.line_format.proofs.Pairs.{Open}
 use Rattle.line_format.proofs.Whole as told
 use Rattle.text_law.specs.ModuleText as text
-use Rattle.text_law.specs.IsModule.{Small, AreSmall, IsModule, IsCode, IsPointsRow, IsReachRow, Each, Counted}
+use Rattle.text_law.specs.IsModule.{Is32Bits, Are32Bits, IsModule, IsCode, IsPointsRow, IsReachRow, Each, Counted}
 use Rattle.text_law.specs.IsText.{IsText}
 use Rattle.text_law.specs.tools.Instrs as instr_form
 use Rattle.text_law.specs.tools.Parts as part_form
@@ -37,7 +37,7 @@ use Rattle.text_law.proofs.Parts.{code, classes, section}
 use Rattle.text_law.proofs.Keys.{OpenKey, FromKey, KeyRoom, key_text, keys, FromPoint, PointRoom, point_text, points}
 use Rattle.text_law.proofs.Orders.{rising_is, set_rising, points_are, are_points, reach_are, are_reach, key_first, from_first}
 
-n10 : Spells (instr_form.number 10) Small (λ n r. decimal n ++ 10 ∷ r)
+n10 : Spells (instr_form.number 10) Is32Bits (λ n r. decimal n ++ 10 ∷ r)
 n10 = plain 10 refl
 
 -- ---- the first line
@@ -109,14 +109,14 @@ map_length : {A B : Type 0} (f : A → B) (xs : List A) → length (map f xs) �
 map_length f [] = refl
 map_length f (x ∷ xs) = ap suc (map_length f xs)
 
-points_counted : Spells (part_form.behind (codes "points ") (instr_form.number 10)) Small (λ n r. codes "points " ++ (decimal n ++ 10 ∷ r))
+points_counted : Spells (part_form.behind (codes "points ") (instr_form.number 10)) Is32Bits (λ n r. codes "points " ++ (decimal n ++ 10 ∷ r))
 points_counted = behind n10 (codes "points ")
 
-some_points : (n : ℕ) → Small n → Spells (key_form.points_rows n) (λ xs. (length xs ≡ n) × AreRows key_form.key key_form.next_key OpenKey FromKey KeyRoom key_text (temps (0, 0)) xs)
+some_points : (n : ℕ) → Is32Bits n → Spells (key_form.points_rows n) (λ xs. (length xs ≡ n) × AreRows key_form.key key_form.next_key OpenKey FromKey KeyRoom key_text (temps (0, 0)) xs)
     (rows_text key_form.key key_form.next_key OpenKey FromKey KeyRoom key_text)
 some_points n few = keyed key_form.key key_form.next_key OpenKey FromKey KeyRoom key_text keys (temps (0, 0)) n (λ k e. (omega arith, omega arith)) few
 
-points_table : Spells form.points (λ xs. Small (length xs) × AreRows key_form.key key_form.next_key OpenKey FromKey KeyRoom key_text (temps (0, 0)) xs)
+points_table : Spells form.points (λ xs. Is32Bits (length xs) × AreRows key_form.key key_form.next_key OpenKey FromKey KeyRoom key_text (temps (0, 0)) xs)
     (λ xs r. text.section (codes "points") text.points_words (map form.points_row xs) r)
 points_table = record {
   good = (points_counted.good, λ n (ts, r, h). (some_points n (points_counted.is ts n r h).0).good);
@@ -127,22 +127,22 @@ points_table = record {
   is = λ ts xs r (n, m, h, g).
       let (few, t) = points_counted.is ts n m h in
       let ((count, is), u) = (some_points n few).is m xs r g in (
-        (subst (λ z. Small z) (sym count) few, is),
+        (subst (λ z. Is32Bits z) (sym count) few, is),
         t ∙ (λ i. codes "points " ++ (decimal (sym (map_length form.points_row xs ∙ count) i) ++ 10 ∷ m)) ∙ ap (λ z. codes "points " ++ (decimal (length (map form.points_row xs)) ++ 10 ∷ z)) (u ∙ points_lines (temps (0, 0)) xs r is),
       );
 }
 
-reach_counted : Spells (part_form.behind (codes "reach ") (instr_form.number 10)) Small (λ n r. codes "reach " ++ (decimal n ++ 10 ∷ r))
+reach_counted : Spells (part_form.behind (codes "reach ") (instr_form.number 10)) Is32Bits (λ n r. codes "reach " ++ (decimal n ++ 10 ∷ r))
 reach_counted = behind n10 (codes "reach ")
 
 open_first : (k : ℕ) → suc k ≤ greatest → Open (0, 0) k
 open_first k few = (omega arith, omega arith, grind (arith, few))
 
-some_reach : (n : ℕ) → Small n → Spells (key_form.reach_rows n) (λ xs. (length xs ≡ n) × AreRows key_form.point_key key_form.next_point Open FromPoint PointRoom point_text (0, 0) xs)
+some_reach : (n : ℕ) → Is32Bits n → Spells (key_form.reach_rows n) (λ xs. (length xs ≡ n) × AreRows key_form.point_key key_form.next_point Open FromPoint PointRoom point_text (0, 0) xs)
     (rows_text key_form.point_key key_form.next_point Open FromPoint PointRoom point_text)
 some_reach n few = keyed key_form.point_key key_form.next_point Open FromPoint PointRoom point_text points (0, 0) n (λ k e. open_first k (omega arith)) few
 
-reach_table : Spells form.reach (λ xs. Small (length xs) × AreRows key_form.point_key key_form.next_point Open FromPoint PointRoom point_text (0, 0) xs)
+reach_table : Spells form.reach (λ xs. Is32Bits (length xs) × AreRows key_form.point_key key_form.next_point Open FromPoint PointRoom point_text (0, 0) xs)
     (λ xs r. text.section (codes "reach") text.reach_words (map form.reach_row xs) r)
 reach_table = record {
   good = (reach_counted.good, λ n (ts, r, h). (some_reach n (reach_counted.is ts n r h).0).good);
@@ -153,7 +153,7 @@ reach_table = record {
   is = λ ts xs r (n, m, h, g).
       let (few, t) = reach_counted.is ts n m h in
       let ((count, is), u) = (some_reach n few).is m xs r g in (
-        (subst (λ z. Small z) (sym count) few, is),
+        (subst (λ z. Is32Bits z) (sym count) few, is),
         t ∙ (λ i. codes "reach " ++ (decimal (sym (map_length form.reach_row xs ∙ count) i) ++ 10 ∷ m)) ∙ ap (λ z. codes "reach " ++ (decimal (length (map form.reach_row xs)) ++ 10 ∷ z)) (u ∙ reach_lines (0, 0) xs r is),
       );
 }
@@ -184,7 +184,7 @@ beside_length (m ∷ ms) (s ∷ ss) e = ap suc (beside_length ms ss (omega arith
 abbrev Rising : Bool × List ℕ → Type 0
 Rising r = Unit {0} × Fit true 0 r.1
 
-sets_are : (rs : List (Bool × List ℕ)) → Each Rising rs → Each AreSmall (map (λ r. r.1) rs) × (list_all (is_chain nat_lt) (map (λ r. r.1) rs) ≡ true)
+sets_are : (rs : List (Bool × List ℕ)) → Each Rising rs → Each Are32Bits (map (λ r. r.1) rs) × (list_all (is_chain nat_lt) (map (λ r. r.1) rs) ≡ true)
 sets_are [] i = (tt, refl)
 sets_are (r ∷ rs) ((u, fit), is) =
     let (small, e) = rising_is 0 r.1 fit in
@@ -195,7 +195,7 @@ both : (a b : Bool) → a && b ≡ true → (a ≡ true) × (b ≡ true)
 both true b e = (refl, e)
 both false b e = false_true e
 
-are_sets : (ms : List Bool) (ss : List (List ℕ)) → Each AreSmall ss → list_all (is_chain nat_lt) ss ≡ true → Each Rising (text.beside ms ss)
+are_sets : (ms : List Bool) (ss : List (List ℕ)) → Each Are32Bits ss → list_all (is_chain nat_lt) ss ≡ true → Each Rising (text.beside ms ss)
 are_sets [] ss i e = tt
 are_sets (m ∷ ms) [] i e = tt
 are_sets (m ∷ ms) (s ∷ ss) (small, smalls) e =
@@ -232,8 +232,8 @@ reach_of (r ∷ rows) ((p, small), is) e c =
 -- ---- the whole
 
 parts : Spells form.parts
-    (λ p. Unit {0} × (IsCode p.1.0 × (Counted Small p.1.1.0 × (Counted Rising p.1.1.1.0 × ((Small (length p.1.1.1.1.0) × AreRows key_form.key key_form.next_key OpenKey FromKey KeyRoom key_text (temps (0, 0)) p.1.1.1.1.0)
-    × (Small (length p.1.1.1.1.1) × AreRows key_form.point_key key_form.next_point Open FromPoint PointRoom point_text (0, 0) p.1.1.1.1.1))))))
+    (λ p. Unit {0} × (IsCode p.1.0 × (Counted Is32Bits p.1.1.0 × (Counted Rising p.1.1.1.0 × ((Is32Bits (length p.1.1.1.1.0) × AreRows key_form.key key_form.next_key OpenKey FromKey KeyRoom key_text (temps (0, 0)) p.1.1.1.1.0)
+    × (Is32Bits (length p.1.1.1.1.1) × AreRows key_form.point_key key_form.next_point Open FromPoint PointRoom point_text (0, 0) p.1.1.1.1.1))))))
     (λ p r. size_text p.0 ++ 10 ∷ text.code_text p.1.0 (text.section (codes "definitions") text.class_words p.1.1.0 (text.section (codes "reads") text.set_words p.1.1.1.0
     (text.section (codes "points") text.points_words (map form.points_row p.1.1.1.1.0) (text.section (codes "reach") text.reach_words (map form.reach_row p.1.1.1.1.1) r)))))
 parts = pair size (pair code (pair classes (pair sets (pair points_table reach_table))))
@@ -271,9 +271,9 @@ unfolding parts_of parts_text
 whole_has m i r =
     let marks : length m.removed ≡ length m.sets = i.ordered.marks in
     let rest : List ℕ = codes "end\n" ++ r in
-    let few : Small (length (text.beside m.removed m.sets)) = subst (λ n. Small n) (sym (beside_length m.removed m.sets marks)) i.sets.0 in
-    let points_few : Small (length (map (λ r. (r.key, r.nodes)) m.points)) = subst (λ n. Small n) (sym (map_length (λ r. (r.key, r.nodes)) m.points)) i.points.0 in
-    let reach_few : Small (length (map (λ r. (r.point, r.facts)) m.reach)) = subst (λ n. Small n) (sym (map_length (λ r. (r.point, r.facts)) m.reach)) i.reach.0 in
+    let few : Is32Bits (length (text.beside m.removed m.sets)) = subst (λ n. Is32Bits n) (sym (beside_length m.removed m.sets marks)) i.sets.0 in
+    let points_few : Is32Bits (length (map (λ r. (r.key, r.nodes)) m.points)) = subst (λ n. Is32Bits n) (sym (map_length (λ r. (r.key, r.nodes)) m.points)) i.points.0 in
+    let reach_few : Is32Bits (length (map (λ r. (r.point, r.facts)) m.reach)) = subst (λ n. Is32Bits n) (sym (map_length (λ r. (r.point, r.facts)) m.reach)) i.reach.0 in
     let h = parts.has (parts_of m)
     (tt, (i.code, (i.classes, ((few, are_sets m.removed m.sets i.sets.1 i.ordered.members), ((points_few, points_of m.points i.points.1 i.ordered.points_rows i.ordered.points_order), (reach_few, reach_of m.reach i.reach.1 i.ordered.reach_rows i.ordered.reach_order)))))) rest in
     subst (λ z. Has form.whole z m r) (text_back m r) (parts_of m, rest, h, (tt, r, word_text (codes "end\n") r, (module_back m marks, refl)))
@@ -288,9 +288,9 @@ whole_is ts m r (p, n, h, (u, k, w, (e, x))) =
     let is : IsModule (form.module_of p) = record {
       code = i.1.0;
       classes = i.1.1.0;
-      sets = (subst (λ n. Small n) (sym (map_length (λ r. r.1) rs)) i.1.1.1.0.0, small);
-      points = (subst (λ n. Small n) (sym (map_length form.points_row p.1.1.1.1.0)) i.1.1.1.1.0.0, points_each);
-      reach = (subst (λ n. Small n) (sym (map_length form.reach_row p.1.1.1.1.1)) i.1.1.1.1.1.0, reach_each);
+      sets = (subst (λ n. Is32Bits n) (sym (map_length (λ r. r.1) rs)) i.1.1.1.0.0, small);
+      points = (subst (λ n. Is32Bits n) (sym (map_length form.points_row p.1.1.1.1.0)) i.1.1.1.1.0.0, points_each);
+      reach = (subst (λ n. Is32Bits n) (sym (map_length form.reach_row p.1.1.1.1.1)) i.1.1.1.1.1.0, reach_each);
       ordered = record { marks = length_firsts rs; members = members; points_rows = points_rows; points_order = points_order; reach_rows = reach_rows; reach_order = reach_order };
     } in
     let tail : n ≡ codes "end\n" ++ r = word_is (codes "end\n") n u k w ∙ ap (λ z. codes "end\n" ++ z) x in

@@ -1,0 +1,10 @@
+pub mod FirstBroken
+pub mod Rows
+pub mod Totals
+pub mod Positions
+pub mod RegionsKept
+pub mod FormKept
+pub mod Unbroken
+pub mod TextRows
+pub mod ReadRows
+pub mod Ascending
