@@ -1,21 +1,7 @@
-pub mod Answering
-pub mod Calm
-pub mod Clean
-pub mod Computing
-pub mod Depths
-pub mod Ending
-pub mod Extending
-pub mod First
-pub mod Fuel
-pub mod Prefixes
-pub mod ProgramRows
-pub mod Rows
-pub mod Running
-pub mod Shuffling
-pub mod Stamps
-pub mod Going
-pub mod Lives
-pub mod Memory
-pub mod Parting
-pub mod Places
-pub mod Whole
+mod Assigning
+mod Forking
+mod Forms
+mod Loops
+mod Reading
+mod StmtForms
+mod Stopping

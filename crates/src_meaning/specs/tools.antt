@@ -1,7 +1,4 @@
+pub mod Branches
 pub mod Follows
-pub mod Heard
+pub mod Knots
 pub mod Levels
-pub mod Reader
-pub mod ReaderLaws
-pub mod RunLaws
-pub mod Threads

@@ -1,30 +1,17 @@
 //! What a thread hears, and what it makes of it.
 
 ghost use Rattle.std.specs.Prelude.{◌≡◌, ◌≤◌, length};
-ghost use Rattle.src_meaning.specs.Acts.{a_value, nothing};
-ghost use Rattle.src_meaning.specs.tools.Heard as spec;
-ghost use Rattle.src_meaning.specs.tools.Reader as reader;
+ghost use Rattle.src_law.specs.Acts.{a_value, nothing};
+ghost use Rattle.src_law.specs.tools.Heard as spec;
+ghost use Rattle.src_law.specs.tools.Reader as reader;
+ghost use Rattle.src_law.specs.declared.heard.End.TheVariants.{Done as done};
+ghost use Rattle.src_meaning.specs.tools.Branches.{Branches};
 ghost use Rattle.src_meaning.specs.tools.Follows.{Follows};
 
 use obj_mem::{Event, Maker, SrcAnswer, Value};
+use src_law::{End, Heard};
 use std::alloc::{AllocError, AllocFailed};
 use std::marker::Model;
-
-/// The answer of an event, or, behind a fork, which branch of it this is.
-#[derive(Clone, Copy, Debug)]
-pub enum Heard {
-    Answer(SrcAnswer),
-    Branch(u32),
-}
-
-/// How a statement ends.
-#[derive(Clone, Copy, Debug)]
-pub enum End {
-    Done,
-    Broken,
-    Again,
-    Returned(Value),
-}
 
 /// Why a thread goes no further.
 #[derive(Clone, Copy, Debug)]
@@ -68,7 +55,7 @@ pub struct Hearing<'a> {
 
 impl<'a> Model for Hearing<'a> {
     ghost use Rattle.std.specs.Prelude.{List};
-    ghost use Rattle.src_meaning.specs.declared.heard.Heard.{Heard};
+    ghost use Rattle.src_law.specs.declared.heard.Heard.{Heard};
 
     ghost Value = { List Heard };
 
@@ -116,6 +103,16 @@ impl<'a> Hearing<'a> {
         }
     }
 
+    /// The same, as a part hears it.
+    pub fn tells(&mut self, event: Event) -> Result<(), Pause>
+        ensures { Follows (spec.bind (spec.asks event self.old) (spec.result_of nothing)) result self.new }
+    {
+        match self.asks(event)? {
+            SrcAnswer::Unit => Ok(()),
+            _ => Err(Pause::Off),
+        }
+    }
+
     /// An event that makes a frame.
     pub fn frame(&mut self, event: Event) -> Result<Maker, Pause>
         ensures { Follows (spec.bind (spec.asks event self.old) spec.frame_of) result self.new }
@@ -133,6 +130,30 @@ impl<'a> Hearing<'a> {
         match self.asks(event)? {
             SrcAnswer::Unit if self.rest.is_empty() => Err(Pause::Over),
             _ => Err(Pause::Off),
+        }
+    }
+
+    /// Which branch of the fork before it this is, if it is one.
+    pub fn branch(&mut self) -> Option<u32>
+        ensures { Branches self.old result self.new }
+    {
+        match self.rest {
+            [Heard::Branch(i), rest @ ..] => {
+                self.rest = rest;
+                Some(*i)
+            }
+            _ => None,
+        }
+    }
+
+    /// The end of a branch: nothing more is heard.
+    pub fn end(&self) -> Result<End, Pause>
+        ensures { Follows (reader.to_end done self.now) result self.now }
+    {
+        if self.rest.is_empty() {
+            Err(Pause::Ended)
+        } else {
+            Err(Pause::Off)
         }
     }
 }

@@ -1,35 +1,48 @@
 //! What stands round the parts of a function, and its places.
 
-ghost use Rattle.std.specs.Prelude.{◌≡◌, ◌+◌, ◌∷◌, IfOk, MatchResult, map, get_or};
+ghost use Rattle.std.specs.Prelude.{◌≡◌, ◌<◌, ◌+◌, ◌∷◌, IfOk, MatchResult, map, get_or, length};
 ghost use Rattle.c_typed.specs.Types.{words_of};
 ghost use Rattle.c_typed.specs.IsWell.{sizes_in};
-ghost use Rattle.src_meaning.specs.Acts.{a_value};
-ghost use Rattle.src_meaning.specs.Exprs as spec;
-ghost use Rattle.src_meaning.specs.Operators.{moved_by};
+ghost use Rattle.obj_mem.specs.Asked.{new_event};
+ghost use Rattle.obj_mem.specs.Values.{items_of};
+ghost use Rattle.src_law.specs.Acts.{a_value};
+ghost use Rattle.src_law.specs.Exprs as spec;
+ghost use Rattle.src_law.specs.Operators.{moved_by, needed};
+ghost use Rattle.src_law.specs.Program as sites;
 ghost use Rattle.src_meaning.specs.declared.heard.Pause.{Pause};
-ghost use Rattle.src_meaning.specs.tools.Follows.{ReadsAt};
-ghost use Rattle.src_meaning.specs.tools.Levels.{seen};
+ghost use Rattle.src_meaning.specs.tools.Levels.{ReadsIn, lower, program_of, seen};
 
 use crate::heard::{Hearing, Pause};
-use crate::operators::words_of;
-use c_typed::{BaseType, ExprType, ObjectType, Struct, Typed};
+use crate::operators::{words_behind, words_of};
+use c_typed::{
+    BaseType, Expr, ExprType, Function, Global as GlobalVariable, ObjectType, Struct, Variable,
+};
 use dfi_base::Name;
-use obj_mem::{Maker, Obj, Value};
+use obj_mem::{Event, Maker, Obj, Value};
+use sqlite_items::Boxed;
+use std::alloc::Global;
 
-/// A program, what stands round the parts of a function, and how many calls and turns may still begin in one another.
+/// A typed program, by its parts.
+#[derive(Clone, Copy)]
+pub struct Program<'a> {
+    pub alloc: Global,
+    pub structs: &'a [Struct],
+    pub globals: &'a [GlobalVariable],
+    pub functions: &'a [Function],
+    /// The number of the function `main`.
+    pub main: u32,
+}
+
+/// A function of a program in one of its frames.
 #[derive(Clone, Copy)]
 pub struct Level<'a> {
-    pub typed: &'a Typed,
-    pub structs: &'a [Struct],
-    /// The words of each global.
-    pub globals: &'a [u32],
+    pub program: Program<'a>,
+    /// The number of the function.
+    pub number: u32,
+    pub function: &'a Function,
     /// The maker of the frame.
     pub maker: Maker,
-    /// The site of the function's first variable, and the words of each.
-    pub site: u32,
-    pub variables: &'a [u32],
-    /// The first heap site of the program.
-    pub heap: u32,
+    /// How many calls and turns may still begin in one another.
     pub fuel: u32,
 }
 
@@ -43,12 +56,66 @@ pub(crate) fn plus(a: u32, b: u32) -> Result<u32, Pause>
     }
 }
 
-fn at(words: &[u32], k: u32) -> u32
-    ensures { result ≡ get_or words.now k 0 }
+// The words of global `k`; 0 where there is none.
+fn global_words(structs: &[Struct], globals: &[GlobalVariable], k: u32) -> Result<u32, Pause>
+    ensures { MatchResult result (λ n. n ≡ get_or (map (λ g. words_of (sizes_in structs.now) g.object) globals.now) k 0) (λ e. e ≡ Pause.Memory) }
 {
-    match words.get(k as usize) {
-        Some(found) => *found,
-        None => 0,
+    match globals.get(k as usize) {
+        Some(global) => words_of(structs, &global.object),
+        None => Ok(0),
+    }
+}
+
+// The words of variable `k`; 0 where there is none.
+fn variable_words(structs: &[Struct], variables: &[Variable], k: u32) -> Result<u32, Pause>
+    ensures { MatchResult result (λ n. n ≡ get_or (map (λ v. words_of (sizes_in structs.now) v.object) variables.now) k 0) (λ e. e ≡ Pause.Memory) }
+{
+    match variables.get(k as usize) {
+        Some(variable) => words_of(structs, &variable.object),
+        None => Ok(0),
+    }
+}
+
+fn count<T>(items: &[T]) -> Result<u32, Pause>
+    ensures { MatchResult result (λ n. n ≡ length items.now) (λ e. e ≡ Pause.Memory) }
+{
+    match u32::try_from(items.len()) {
+        Ok(count) => Ok(count),
+        Err(_) => Err(Pause::Memory),
+    }
+}
+
+fn variables_in(functions: &[Function]) -> Result<u32, Pause>
+    ensures { MatchResult result (λ n. n ≡ sites.variables_in functions.now) (λ e. e ≡ Pause.Memory) }
+{
+    match functions {
+        [] => Ok(0),
+        [first, rest @ ..] => {
+            let own = count(first.variables.as_slice())?;
+            plus(own, variables_in(rest)?)
+        }
+    }
+}
+
+impl<'a> Program<'a> {
+    /// The site of the first variable of function `k`: the globals come first.
+    fn first_variable(&self, k: u32) -> Result<u32, Pause>
+        ensures { MatchResult result (λ n. n ≡ sites.first_variable (program_of self.now) k) (λ e. e ≡ Pause.Memory) }
+    {
+        let globals = count(self.globals)?;
+        let before = match self.functions.get(..k as usize) {
+            Some(before) => before,
+            None => self.functions,
+        };
+        plus(globals, variables_in(before)?)
+    }
+
+    /// The first heap site, behind all variables.
+    fn first_heap_site(&self) -> Result<u32, Pause>
+        ensures { MatchResult result (λ n. n ≡ sites.first_heap_site (program_of self.now)) (λ e. e ≡ Pause.Memory) }
+    {
+        let globals = count(self.globals)?;
+        plus(globals, variables_in(self.functions)?)
     }
 }
 
@@ -102,27 +169,52 @@ fn fields_of(structs: &[Struct], base: BaseType) -> &[ObjectType]
 }
 
 impl<'a> Level<'a> {
-    pub(crate) fn global_place(&self, v: u32) -> Value
-        ensures { result ≡ spec.global_place (seen self.now) v }
+    /// The same with a call or a turn less.
+    pub(crate) fn lowered(&self) -> Level<'a>
+        requires { 0 < self.now.fuel }
+        ensures { result ≡ lower self.now }
+    {
+        let mut level = *self;
+        level.fuel -= 1;
+        level
+    }
+
+    /// The type of an expression.
+    pub(crate) fn type_of<'b>(&self, e: &'b Expr) -> &'b ExprType
+        ensures { result.now ≡ (spec.expr (seen self.now) e.now).typing }
+    {
+        &e.typing
+    }
+
+    /// The type of an operand.
+    pub(crate) fn typing<'b>(&self, e: &'b Boxed<Expr>) -> &'b ExprType
+        ensures { result.now ≡ (spec.expr (seen self.now) e.now).typing }
+    {
+        &e.get().typing
+    }
+
+    pub(crate) fn global_place(&self, v: u32) -> Result<Value, Pause>
+        ensures { MatchResult result (λ p. p ≡ spec.global_place (seen self.now) v) (λ e. e ≡ Pause.Memory) }
     {
         let maker = Maker {
             thread: Name(0),
             count: 0,
         };
-        let len = at(self.globals, v);
-        Obj {
+        let len = global_words(self.program.structs, self.program.globals, v)?;
+        Ok(Obj {
             site: v,
             maker,
             len,
         }
-        .whole()
+        .whole())
     }
 
     pub(crate) fn local_place(&self, v: u32) -> Result<Value, Pause>
         ensures { MatchResult result (λ p. p ≡ spec.local_place (seen self.now) v) (λ e. e ≡ Pause.Memory) }
     {
-        let site = plus(self.site, v)?;
-        let len = at(self.variables, v);
+        let first = self.program.first_variable(self.number)?;
+        let site = plus(first, v)?;
+        let len = variable_words(self.program.structs, self.function.variables.as_slice(), v)?;
         Ok(Obj {
             site,
             maker: self.maker,
@@ -138,12 +230,12 @@ impl<'a> Level<'a> {
         pointer: Value,
         heard: &mut Hearing<'_>,
     ) -> Result<Value, Pause>
-        ensures { ReadsAt self.now.typed.now self.now.fuel a_value (spec.field_of (seen self.now) object.now k pointer) heard.old result heard.new }
+        ensures { ReadsIn self.now a_value (spec.field_of (seen self.now) object.now k pointer) heard.old result heard.new }
     {
-        let whole = words_of(self.structs, object)?;
-        let fields = fields_of(self.structs, object.base);
-        let before = words_before(self.structs, fields, k)?;
-        let words = field_words(self.structs, fields, k)?;
+        let whole = words_of(self.program.structs, object)?;
+        let fields = fields_of(self.program.structs, object.base);
+        let before = words_before(self.program.structs, fields, k)?;
+        let words = field_words(self.program.structs, fields, k)?;
         if plus(before, words)? > whole {
             return Err(Pause::Memory);
         }
@@ -158,7 +250,7 @@ impl<'a> Level<'a> {
         pointer: Value,
         heard: &mut Hearing<'_>,
     ) -> Result<Value, Pause>
-        ensures { ReadsAt self.now.typed.now self.now.fuel a_value (spec.field_of (seen self.now) (spec.object_of typing.now) k pointer) heard.old result heard.new }
+        ensures { ReadsIn self.now a_value (spec.field_of (seen self.now) (spec.object_of typing.now) k pointer) heard.old result heard.new }
     {
         match typing {
             ExprType::Place(object) => self.field_in(object, k, pointer, heard),
@@ -175,12 +267,44 @@ impl<'a> Level<'a> {
         items: Value,
         heard: &mut Hearing<'_>,
     ) -> Result<Value, Pause>
-        ensures { ReadsAt self.now.typed.now self.now.fuel a_value (moved_by (spec.sizes (seen self.now)) (spec.object_of typing.now) pointer items) heard.old result heard.new }
+        ensures { ReadsIn self.now a_value (moved_by (spec.sizes (seen self.now)) (spec.object_of typing.now) pointer items) heard.old result heard.new }
     {
         match typing {
             ExprType::Place(object) => self.moved_by(object, pointer, items, heard),
             ExprType::Pointer(object) => self.moved_by(object, pointer, items, heard),
             _ => Err(Pause::Memory),
+        }
+    }
+
+    /// The first item of the array at a place of this type.
+    pub(crate) fn first_item(
+        &self,
+        typing: &ExprType,
+        pointer: Value,
+        heard: &mut Hearing<'_>,
+    ) -> Result<Value, Pause>
+        ensures { ReadsIn self.now a_value (needed (items_of (words_of (spec.sizes (seen self.now)) (spec.object_of typing.now)) pointer)) heard.old result heard.new }
+    {
+        let words = words_behind(self.program.structs, typing)?;
+        self.needed(pointer.items(words), heard)
+    }
+
+    /// A block of so many items.
+    pub(crate) fn makes(
+        &self,
+        site: u32,
+        item: &ObjectType,
+        count: Value,
+        heard: &mut Hearing<'_>,
+    ) -> Result<Value, Pause>
+        ensures { ReadsIn self.now a_value (spec.made_new (new_event ((seen self.now).heap + site) (words_of (spec.sizes (seen self.now)) item.now) count)) heard.old result heard.new }
+    {
+        let first = self.program.first_heap_site()?;
+        let site = plus(first, site)?;
+        let words = words_of(self.program.structs, item)?;
+        match count {
+            Value::Int(count) => heard.value(Event::New { site, count, words }),
+            _ => heard.last(Event::Bad),
         }
     }
 }

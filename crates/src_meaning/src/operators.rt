@@ -5,11 +5,11 @@ ghost use Rattle.dfi_base.specs.Words.{word_neg, word_com, word_not};
 ghost use Rattle.obj_mem.specs.Values.{on_word, on_words, truth_of};
 ghost use Rattle.c_typed.specs.Types.{words_of, times, item_words, base_words};
 ghost use Rattle.c_typed.specs.IsWell.{sizes_in};
-ghost use Rattle.src_meaning.specs.Acts.{a_value, a_truth};
-ghost use Rattle.src_meaning.specs.Operators as spec;
-ghost use Rattle.src_meaning.specs.Exprs.{object_of};
+ghost use Rattle.src_law.specs.Acts.{a_value, a_truth};
+ghost use Rattle.src_law.specs.Operators as spec;
+ghost use Rattle.src_law.specs.Exprs.{object_of};
 ghost use Rattle.src_meaning.specs.declared.heard.Pause.{Pause};
-ghost use Rattle.src_meaning.specs.tools.Follows.{ReadsAt};
+ghost use Rattle.src_meaning.specs.tools.Levels.{ReadsIn};
 
 use crate::heard::{Hearing, Pause};
 use crate::level::Level;
@@ -169,7 +169,7 @@ impl<'a> Level<'a> {
         found: Option<Value>,
         heard: &mut Hearing<'_>,
     ) -> Result<Value, Pause>
-        ensures { ReadsAt self.now.typed.now self.now.fuel a_value (spec.needed found) heard.old result heard.new }
+        ensures { ReadsIn self.now a_value (spec.needed found) heard.old result heard.new }
     {
         match found {
             Some(value) => Ok(value),
@@ -183,7 +183,7 @@ impl<'a> Level<'a> {
         value: Value,
         heard: &mut Hearing<'_>,
     ) -> Result<Value, Pause>
-        ensures { ReadsAt self.now.typed.now self.now.fuel a_value (spec.as_number typing.now value) heard.old result heard.new }
+        ensures { ReadsIn self.now a_value (spec.as_number typing.now value) heard.old result heard.new }
     {
         match typing {
             ExprType::Int => Ok(value),
@@ -196,7 +196,7 @@ impl<'a> Level<'a> {
     }
 
     fn tested(&self, value: Value, heard: &mut Hearing<'_>) -> Result<bool, Pause>
-        ensures { ReadsAt self.now.typed.now self.now.fuel a_truth (spec.tested (truth_of value)) heard.old result heard.new }
+        ensures { ReadsIn self.now a_truth (spec.tested (truth_of value)) heard.old result heard.new }
     {
         match value.truth() {
             Some(truth) => Ok(truth),
@@ -211,7 +211,7 @@ impl<'a> Level<'a> {
         value: Value,
         heard: &mut Hearing<'_>,
     ) -> Result<bool, Pause>
-        ensures { ReadsAt self.now.typed.now self.now.fuel a_truth (spec.is_true typing.now value) heard.old result heard.new }
+        ensures { ReadsIn self.now a_truth (spec.is_true typing.now value) heard.old result heard.new }
     {
         let number = self.as_number(typing, value, heard)?;
         self.tested(number, heard)
@@ -223,7 +223,7 @@ impl<'a> Level<'a> {
         value: Value,
         heard: &mut Hearing<'_>,
     ) -> Result<Value, Pause>
-        ensures { ReadsAt self.now.typed.now self.now.fuel a_value (spec.negated typing.now value) heard.old result heard.new }
+        ensures { ReadsIn self.now a_value (spec.negated typing.now value) heard.old result heard.new }
     {
         match typing {
             ExprType::Int => self.needed(not(value), heard),
@@ -243,7 +243,7 @@ impl<'a> Level<'a> {
         value: Value,
         heard: &mut Hearing<'_>,
     ) -> Result<Value, Pause>
-        ensures { ReadsAt self.now.typed.now self.now.fuel a_value (spec.prefixed op typing.now value) heard.old result heard.new }
+        ensures { ReadsIn self.now a_value (spec.prefixed op typing.now value) heard.old result heard.new }
     {
         match op {
             PrefixOp::Minus => self.needed(minus(value), heard),
@@ -259,7 +259,7 @@ impl<'a> Level<'a> {
         w: Value,
         heard: &mut Hearing<'_>,
     ) -> Result<Value, Pause>
-        ensures { ReadsAt self.now.typed.now self.now.fuel a_value (spec.divided (spec.word_op op) v w) heard.old result heard.new }
+        ensures { ReadsIn self.now a_value (spec.divided (spec.word_op op) v w) heard.old result heard.new }
     {
         match w.truth() {
             Some(false) => heard.last(Event::Zero),
@@ -275,9 +275,9 @@ impl<'a> Level<'a> {
         items: Value,
         heard: &mut Hearing<'_>,
     ) -> Result<Value, Pause>
-        ensures { ReadsAt self.now.typed.now self.now.fuel a_value (spec.moved_by (sizes_in self.now.structs.now) object.now pointer items) heard.old result heard.new }
+        ensures { ReadsIn self.now a_value (spec.moved_by (sizes_in self.now.program.structs.now) object.now pointer items) heard.old result heard.new }
     {
-        let words = words_of(self.structs, object)?;
+        let words = words_of(self.program.structs, object)?;
         self.needed(pointer.moved(items, words), heard)
     }
 
@@ -289,7 +289,7 @@ impl<'a> Level<'a> {
         w: Value,
         heard: &mut Hearing<'_>,
     ) -> Result<Value, Pause>
-        ensures { ReadsAt self.now.typed.now self.now.fuel a_value (spec.added (sizes_in self.now.structs.now) first.now second.now v w) heard.old result heard.new }
+        ensures { ReadsIn self.now a_value (spec.added (sizes_in self.now.program.structs.now) first.now second.now v w) heard.old result heard.new }
     {
         match (first, second) {
             (ExprType::Pointer(object), _) => self.moved_by(object, v, w, heard),
@@ -305,7 +305,7 @@ impl<'a> Level<'a> {
         w: Value,
         heard: &mut Hearing<'_>,
     ) -> Result<Value, Pause>
-        ensures { ReadsAt self.now.typed.now self.now.fuel a_value (spec.subtracted (sizes_in self.now.structs.now) typing.now v w) heard.old result heard.new }
+        ensures { ReadsIn self.now a_value (spec.subtracted (sizes_in self.now.program.structs.now) typing.now v w) heard.old result heard.new }
     {
         match typing {
             ExprType::Pointer(object) => {
@@ -326,7 +326,7 @@ impl<'a> Level<'a> {
         heard: &mut Hearing<'_>,
     ) -> Result<Value, Pause>
         requires { spec.divides op ≡ false }
-        ensures { ReadsAt self.now.typed.now self.now.fuel a_value (spec.equated ne (spec.word_op op) typing.now v w) heard.old result heard.new }
+        ensures { ReadsIn self.now a_value (spec.equated ne (spec.word_op op) typing.now v w) heard.old result heard.new }
     {
         match typing {
             ExprType::Int => self.needed(on_words(op, v, w), heard),
@@ -344,7 +344,7 @@ impl<'a> Level<'a> {
         w: Value,
         heard: &mut Hearing<'_>,
     ) -> Result<Value, Pause>
-        ensures { ReadsAt self.now.typed.now self.now.fuel a_value (spec.operated (sizes_in self.now.structs.now) op first.now second.now v w) heard.old result heard.new }
+        ensures { ReadsIn self.now a_value (spec.operated (sizes_in self.now.program.structs.now) op first.now second.now v w) heard.old result heard.new }
     {
         match op {
             BinaryOp::Equal => self.compared(op, false, first, v, w, heard),
@@ -365,7 +365,7 @@ impl<'a> Level<'a> {
         value: Value,
         heard: &mut Hearing<'_>,
     ) -> Result<Value, Pause>
-        ensures { ReadsAt self.now.typed.now self.now.fuel a_value (spec.updated (sizes_in self.now.structs.now) op typing.now old value) heard.old result heard.new }
+        ensures { ReadsIn self.now a_value (spec.updated (sizes_in self.now.program.structs.now) op typing.now old value) heard.old result heard.new }
     {
         match operator(op) {
             None => Ok(value),

@@ -2,10 +2,11 @@
 use Rattle.std.specs.Prelude.{◌≡◌, ℕ, List, Result, Ok, Err}
 use Rattle.c_typed.specs.Typed.{Typed}
 use Rattle.src_meaning.specs.declared.heard.Pause.{Pause}
-use Rattle.src_meaning.specs.Acts.{Kind, Result as Made, Act}
-use Rattle.src_meaning.specs.Program.{body}
-use Rattle.src_meaning.specs.tools.Reader.{reads}
-use Rattle.src_meaning.specs.tools.Heard.{Heard, Res, got, wants, over, ended, off}
+use Rattle.src_law.specs.Acts.{Kind, Result as Made, Act}
+use Rattle.src_law.specs.Program.{body}
+use Rattle.src_law.specs.tools.Reader.{reads}
+use Rattle.src_law.specs.declared.heard.Heard.{Heard}
+use Rattle.src_law.specs.tools.Heard.{Res, got, wants, over, ended, off}
 
 abbrev pub Pauses : {A : Type 0} → Res A → Pause → Type 0
 Pauses r Pause.Memory = Unit {0}

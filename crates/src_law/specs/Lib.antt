@@ -1,0 +1,11 @@
+pub mod Acts
+pub mod Exprs
+pub mod Laws
+pub mod Operators
+pub mod Program
+pub mod Runs
+pub mod Shuffles
+pub mod Starts
+pub mod Stmts
+pub mod Traces
+pub mod tools

@@ -1,0 +1,5 @@
+pub mod Heard
+pub mod Reader
+pub mod ReaderLaws
+pub mod RunLaws
+pub mod Threads

@@ -1,5 +1,0 @@
-use Rattle.src_meaning.proofs.Clean.{clean_is}
-use Rattle.src_meaning.proofs.clean_is_by_histories.Goals as goal
-
-pub returns : goal.returns
-returns c = clean_is

@@ -1,8 +1,0 @@
-use Rattle.src_meaning.proofs.Memory.{reads_found, freed_gone}
-use Rattle.src_meaning.proofs.histories_keep_memory.Goals as goal
-
-pub returns-clause-reads : goal.returns-clause-reads
-returns-clause-reads c = reads_found
-
-pub returns-clause-freed : goal.returns-clause-freed
-returns-clause-freed c = freed_gone

@@ -1,5 +1,0 @@
-use Rattle.src_meaning.proofs.Whole.{one_result}
-use Rattle.src_meaning.proofs.results_are_unique.Goals as goal
-
-pub returns : goal.returns
-returns c = one_result

@@ -1,5 +1,0 @@
-use Rattle.src_meaning.proofs.Clean.{runs_computed}
-use Rattle.src_meaning.proofs.runs_are_computed.Goals as goal
-
-pub returns : goal.returns
-returns c = runs_computed
