@@ -2,7 +2,7 @@
 use Rattle.std.proofs.Common.{◌≡◌, ℕ, zero, suc, ◌<◌, ◌≤◌, ◌⊎◌, inl, inr, refl, sym, ap, subst, ◌∙◌, arith}
 use Rattle.std.proofs.lemmas.Bool.{cases_lt}
 use Rattle.tac_ir.specs.Module.{Module}
-use Rattle.dfi_checker.specs.declared.fault.Rule.{Rule}
+use Rattle.flow_rules.specs.declared.rule.Rule.{Rule}
 use Rattle.dfi_checker.specs.Breaks.{IsBrokenAt}
 use Rattle.dfi_checker.specs.IsAccepted.{IsFirstBroken, rank}
 use Rattle.dfi_checker.specs.Laws.{OneFault}

@@ -12,7 +12,7 @@ use Rattle.flow_rules.specs.Tables.{reach_in}
 use Rattle.flow_rules.specs.Touches.{touches, DefTouches, starting, made}
 use Rattle.flow_rules.specs.InSet.{InSet}
 use Rattle.flow_rules.specs.Removed.{Removed, Covers, is_loud}
-use Rattle.dfi_checker.specs.declared.fault.Rule.{Rule}
+use Rattle.flow_rules.specs.declared.rule.Rule.{Rule}
 use Rattle.dfi_checker.specs.TextPlace.{set}
 use Rattle.dfi_checker.specs.Breaks.{IsBrokenAt, sets, removed}
 use Rattle.dfi_checker.proofs.Rows.{sample, false_is, some_is}

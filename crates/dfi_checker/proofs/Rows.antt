@@ -22,7 +22,7 @@ use Rattle.flow_rules.specs.InSet.{InSet}
 use Rattle.flow_rules.specs.PointsClosed.{PointsClosedAt}
 use Rattle.flow_rules.specs.ReachClosed.{ReachClosedAt}
 use Rattle.flow_rules.specs.ClassOf.{are_alike, is_least}
-use Rattle.dfi_checker.specs.declared.fault.Rule.{Rule}
+use Rattle.flow_rules.specs.declared.rule.Rule.{Rule}
 use Rattle.dfi_checker.specs.TextPlace.{line_of, shape, global, function_count, main_number, function, instruction, class_count, class, set_count, set, points_row, reach_row}
 use Rattle.dfi_checker.specs.BreaksForm.{bad_instruction, bad_last}
 use Rattle.dfi_checker.specs.Breaks.{IsBrokenAt, form, points, reach, sets, classes}
@@ -192,7 +192,7 @@ store_lost : IsBrokenAt lost Rule.Reach 20
 unfolding node_shapes_in nodes_in
 store_lost = record {
   place = instruction (point 7);
-  broken = reach (point 7) 1 (omega arith) (λ closed. open_rule closed);
+  broken = reach (point 7) (omega arith) (λ closed. open_rule (closed 1));
   line_is = refl;
 }
   where

@@ -12,7 +12,7 @@ use Rattle.flow_rules.specs.ReachClosed.{ReachClosedAt}
 use Rattle.flow_rules.specs.InSet.{InSet}
 use Rattle.flow_rules.specs.ClassOf.{ClassOf}
 use Rattle.flow_rules.specs.Removed.{Removed}
-use Rattle.dfi_checker.specs.declared.fault.Rule.{Rule}
+use Rattle.flow_rules.specs.declared.rule.Rule.{Rule}
 use Rattle.dfi_checker.specs.TextPlace.{TextPlace, line_of, instruction, class, set}
 use Rattle.dfi_checker.specs.BreaksForm.{BreaksForm}
 
@@ -21,7 +21,7 @@ use Rattle.dfi_checker.specs.BreaksForm.{BreaksForm}
 pub data Breaks (m : Module) : Rule → TextPlace → Type 0 where
   form : (place : TextPlace) → BreaksForm m place → Breaks m Rule.Form place
   points : (p : Point) → IsPoint m.code p → (PointsClosedAt m.code (touches m.code m.points) (points_by m.points) p → ⊥) → Breaks m Rule.Points (instruction p)
-  reach : (p : Point) (a : ℕ) → IsPoint m.code p → (ReachClosedAt m.code (touches m.code m.points) (reach_in m) a p → ⊥) → Breaks m Rule.Reach (instruction p)
+  reach : (p : Point) → IsPoint m.code p → (((a : ℕ) → ReachClosedAt m.code (touches m.code m.points) (reach_in m) a p) → ⊥) → Breaks m Rule.Reach (instruction p)
   -- the set of a read is not that of the tables
   sets : (r d : ℕ) → r < length m.sets → ((has (set_of m (suc r)) d ≡ true) ↔ InSet m.code (touches m.code m.points) (reach_in m) (suc r) d → ⊥) → Breaks m Rule.Sets (set (suc r))
   -- the class of a definition is not that of the sets

@@ -2,7 +2,7 @@
 use Rattle.std.specs.Prelude.{◌≡◌, ℕ, ◌<◌, ◌≤◌, Result, Ok, Err}
 use Rattle.tac_ir.specs.Module.{Module}
 use Rattle.flow_rules.specs.Accepted.{Accepted}
-use Rattle.dfi_checker.specs.declared.fault.Rule.{Rule}
+use Rattle.flow_rules.specs.declared.rule.Rule.{Rule}
 use Rattle.dfi_checker.specs.declared.fault.AcceptFault.{AcceptFault}
 use Rattle.dfi_checker.specs.Breaks.{IsBrokenAt}
 

@@ -4,7 +4,7 @@ use Rattle.dfi_base.specs.declared.numbers.Point.{Point}
 use Rattle.tac_ir.specs.Module.{Module, point_before}
 use Rattle.tac_ir.specs.GoodModule.{IsPoint}
 use Rattle.flow_rules.specs.Accepted.{Accepted}
-use Rattle.dfi_checker.specs.declared.fault.Rule.{Rule}
+use Rattle.flow_rules.specs.declared.rule.Rule.{Rule}
 use Rattle.dfi_checker.specs.TextPlace.{line_of, instruction}
 use Rattle.dfi_checker.specs.Breaks.{IsBrokenAt}
 use Rattle.dfi_checker.specs.IsAccepted.{IsFirstBroken}

@@ -1,15 +1,5 @@
+use flow_rules::Rule;
 use thiserror::Error;
-
-/// What an accepted module keeps, in the order in which it is told.
-#[derive(Clone, Copy, Debug, PartialEq, Eq)]
-pub enum Rule {
-    Form,
-    Points,
-    Reach,
-    Sets,
-    Classes,
-    Removed,
-}
 
 /// Why a module is not accepted.
 #[derive(Debug, Drop, Error)]

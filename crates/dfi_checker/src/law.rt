@@ -1,7 +1,6 @@
 ghost use Rattle.dfi_checker.specs.Laws.{AcceptedBreaksNone, LinesAscend, OneFault};
 
 use dfi_base as _;
-use flow_rules as _;
 use line_format as _;
 use tac_ir as _;
 use text_law as _;

@@ -4,5 +4,5 @@
 mod fault;
 mod law;
 
-pub use fault::{AcceptFault, Rule};
+pub use fault::AcceptFault;
 pub use law::{accepted_breaks_none, lines_ascend, one_fault};

@@ -11,8 +11,8 @@ use Rattle.tac_ir.specs.declared.module.Size.{Size}
 use Rattle.tac_ir.specs.Module.{Module, is_chain}
 use Rattle.tac_ir.specs.GoodModule.{IsPoint}
 use Rattle.tac_ir.specs.Numbers.{reads_made}
-use Rattle.flow_rules.specs.ReachRows.{row_of}
-use Rattle.flow_rules.specs.Tables.{facts_at}
+use Rattle.flow_rules.specs.ReachRows.{reach_rows, row_of}
+use Rattle.flow_rules.specs.Tables.{facts_at, reach_in}
 
 -- one set for each read, its members ascending
 pub record AreSetsOf (c : Code) (sets : List (List ℕ)) : Type 0 where
@@ -35,3 +35,7 @@ pub record Instruments (c : Code) (points : List PointsRow) (r : Reach) (sets : 
   -- the facts that reach a point are those of its row, and no other point has a row
   pub reach : (p : Point) → IsPoint c p → facts_at m.reach p ≡ members (row_of c r p)
   pub exist : All (IsRowOf c r) m.reach
+
+-- its table of reach is that of the rows of bits
+abbrev pub HasTable : Code → Reach → Module → Type 0
+HasTable c r m = (p : Point) (d a : ℕ) → reach_in m p d a ≡ reach_rows c r p d a

@@ -6,7 +6,7 @@ ghost use Rattle.dfi_base.specs.Bits.{members};
 ghost use Rattle.tac_ir.specs.GoodForm.{GoodForm};
 ghost use Rattle.tac_ir.specs.Counts.{points_in_code};
 ghost use Rattle.flow_rules.specs.ReachRows.{ArePointsOf, IsReachOf};
-ghost use Rattle.instrument.specs.Instruments.{AreSetsOf, Instruments};
+ghost use Rattle.instrument.specs.Instruments.{AreSetsOf, HasTable, Instruments};
 ghost use Rattle.instrument.specs.tools.MadeRows.{row_if, rows_from, rows_of};
 
 use dfi_base::{Bits, Memory, Point};
@@ -91,7 +91,8 @@ pub fn instrument(
     requires points { ArePointsOf c p.rows }
     requires reach { IsReachOf c p.rows r }
     requires sets { AreSetsOf c s.lists }
-    ensures { IfOk result (Instruments c p.rows r s.lists k.list) }
+    ensures module { IfOk result (Instruments c p.rows r s.lists k.list) }
+    ensures table { IfOk result (HasTable c r) }
 {
     let reach = reach_rows(alloc, &c, r.rows.as_slice())?;
     let removed = all_checked(alloc, s.lists.len())?;
