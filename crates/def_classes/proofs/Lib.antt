@@ -1,0 +1,11 @@
+pub mod Once
+pub mod InOrder
+pub mod Reading
+pub mod Numbering
+pub mod Alike
+pub mod Classing
+pub mod Counting
+pub mod InRange
+pub mod Listing
+pub mod SetsFound
+pub mod Telling

@@ -1,0 +1,4 @@
+pub mod AreSets
+pub mod IsWithin
+pub mod Laws
+pub mod tools

@@ -1,0 +1,4 @@
+pub mod Counted
+pub mod EachOnce
+pub mod Listed
+pub mod Readers
