@@ -10,3 +10,5 @@ mod Solved
 mod Fitting
 mod Reading
 mod Keyed
+mod Ordered
+mod Closing

@@ -138,7 +138,7 @@ module _ (row : Key → List ℕ) where
 ranged : (f : ℕ → Key) (n i : ℕ) → i < n → Contains (map f (range_with_len 0 n)) (f i)
 ranged f n i low = (i, omega (arith, low, length-map-range_with_len f 0 n), get_or-map-range_with_len f 0 n i i (f i) low (omega arith))
 
-all_ranged : (P : Key → Type 0) (f : ℕ → Key) (n : ℕ) → ((i : ℕ) → i < n → P (f i)) → All P (map f (range_with_len 0 n))
+pub all_ranged : (P : Key → Type 0) (f : ℕ → Key) (n : ℕ) → ((i : ℕ) → i < n → P (f i)) → All P (map f (range_with_len 0 n))
 all_ranged P f n each k d low =
     let within : k < n = omega (arith, low, length-map-range_with_len f 0 n) in
     subst P (sym (get_or-map-range_with_len f 0 n k k d within (omega arith))) (each k within)
@@ -174,13 +174,13 @@ has_key c (Key.Node n) low =
     Contains-append_right (keys_before c (length c.funs)) (map Key.Node (range_with_len 0 (nodes_in_code c))) (Key.Node n)
     (ranged Key.Node (nodes_in_code c) n low)
 
-keys_exist : (c : Code) → All (IsKey c) (keys_of c)
+pub keys_exist : (c : Code) → All (IsKey c) (keys_of c)
 keys_exist c =
     All-append (IsKey c) (keys_before c (length c.funs)) (map Key.Node (range_with_len 0 (nodes_in_code c))) (temps_exist c (length c.funs))
     (all_ranged (IsKey c) Key.Node (nodes_in_code c) (λ i low. low))
 
 -- the entries of a table say what its rows have
-abbrev row_in : Code → Table → Key → List ℕ
+abbrev pub row_in : Code → Table → Key → List ℕ
 row_in c t key = members (row_of t (row_number c (row_of_key key)))
 
 pub entries_have : (c : Code) (t : Table) (key : Key) (n : ℕ) → IsKey c key

@@ -1,7 +1,9 @@
 ghost use Rattle.std.specs.Prelude.{◌≡◌, ◌↔◌, ℕ, true, IfOk};
 ghost use Rattle.tac_ir.specs.declared.module.Key.{Key as AKey};
 ghost use Rattle.tac_ir.specs.GoodForm.{GoodForm};
+ghost use Rattle.flow_rules.specs.Laws.{AreClosed};
 ghost use Rattle.flow_rules.specs.PointsTo.{PointsTo};
+ghost use Rattle.flow_rules.specs.ReachRows.{ArePointsOf};
 ghost use Rattle.flow_rules.specs.Tables.{points_by};
 
 use crate::answer::entries_of;
@@ -14,7 +16,9 @@ use tac_ir::{Code, Points};
 /// What each temporary and each node may point to: the least solution of the rules of points.
 pub fn solve_points(alloc: Global, c: &Code) -> Result<Points, Memory>
     requires { GoodForm c.now }
-    ensures { IfOk result (λ p. (key : AKey) (n : ℕ) → (points_by p.rows key n ≡ true) ↔ PointsTo c.now key n) }
+    ensures form { IfOk result (λ p. ArePointsOf c.now p.rows) }
+    ensures points { IfOk result (λ p. (key : AKey) (n : ℕ) → (points_by p.rows key n ≡ true) ↔ PointsTo c.now key n) }
+    ensures closed { IfOk result (λ p. AreClosed c.now p.rows) }
 {
     let map = RowMap::of(alloc, c)?;
     let rows = solved_rows(alloc, c, &map)?;

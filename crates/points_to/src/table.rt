@@ -1,5 +1,6 @@
-ghost use Rattle.std.specs.Prelude.{◌≡◌, ◌↔◌, ℕ, false, IfOk, IsTrue, length, replicate};
+ghost use Rattle.std.specs.Prelude.{◌≡◌, ◌↔◌, ℕ, false, All, IfOk, IsTrue, length, replicate};
 ghost use Rattle.tac_ir.specs.declared.module.Key.{Key as AKey};
+ghost use Rattle.tac_ir.specs.Counts.{nodes_in_code};
 ghost use Rattle.tac_ir.specs.GoodForm.{GoodForm};
 ghost use Rattle.tac_ir.specs.GoodModule.{IsKey};
 ghost use Rattle.least_rows.specs.Rules.{row_has};
@@ -20,6 +21,7 @@ pub fn solved_rows(alloc: Global, c: &Code, map: &RowMap) -> Result<Vec<Bits>, M
     requires form { GoodForm c.now }
     requires map { IsRowMapOf c.now map.now }
     ensures long { IfOk result (λ rows. length rows.items ≡ row_count c.now) }
+    ensures wide { IfOk result (λ rows. All (λ row. length row ≡ nodes_in_code c.now) rows.items) }
     ensures points { IfOk result (λ rows. (key : AKey) (n : ℕ) → IsKey c.now key
         → IsTrue (row_has rows.items (row_number c.now (row_of_key key)) n) ↔ PointsTo c.now key n) }
 {

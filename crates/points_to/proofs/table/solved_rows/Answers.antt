@@ -1,8 +1,8 @@
-use Rattle.std.proofs.Common.{false, length, ap, sym, ◌∙◌, subst, replicate}
+use Rattle.std.proofs.Common.{◌≡◌, false, length, All, ap, sym, ◌∙◌, subst, replicate}
 use Rattle.std.proofs.lemmas.List.{length-replicate}
 use Rattle.tac_ir.specs.Counts.{nodes_in_code}
 use Rattle.least_rows.specs.Rules.{IsFitting}
-use Rattle.least_rows.proofs.Least.{alike_long}
+use Rattle.least_rows.proofs.Least.{alike_long, alike_even}
 use Rattle.points_to.specs.Rows.{row_count}
 use Rattle.points_to.specs.Laws.{IsEmpty}
 use Rattle.points_to.proofs.Fitting.{empty_table, fits}
@@ -23,6 +23,16 @@ returns-clause-long c =
     ∙ ap (λ n. replicate (row_count c.args.c.now) (replicate n false)) c.requires.map.nodes in
     alike_long c.in_ok-rows.rows.items c.in_ok-start.start.items c.in_ok-rows.ensures.alike ∙ ap length start
     ∙ length-replicate (row_count c.args.c.now) (replicate (nodes_in_code c.args.c.now) false)
+
+pub returns-clause-wide : goal.returns-clause-wide
+returns-clause-wide c =
+    let start =
+    c.in_ok-start.ensures ∙ ap (λ n. replicate n (replicate c.args.map.now.nodes false)) c.count.ensures
+    ∙ ap (λ n. replicate (row_count c.args.c.now) (replicate n false)) c.requires.map.nodes in
+    let fitting = fits c.args.c.now c.in_ok-system.system c.requires.form c.in_ok-system.ensures in
+    alike_even c.in_ok-start.start.items c.in_ok-rows.rows.items (nodes_in_code c.args.c.now) c.in_ok-rows.ensures.alike
+    (subst (λ n. All (λ row. length row ≡ n) c.in_ok-start.start.items) c.in_ok-system.ensures.width
+    (subst (All (λ row. length row ≡ c.in_ok-system.system.width)) (sym start) fitting.rows))
 
 pub returns-clause-points : goal.returns-clause-points
 returns-clause-points c key n exists =
