@@ -5,9 +5,12 @@ use Rattle.tac_ir.specs.declared.code.Code.{Code}
 use Rattle.tac_ir.specs.declared.module.Key.{Key}
 use Rattle.tac_ir.specs.declared.module.PointsRow.{PointsRow}
 use Rattle.tac_ir.specs.declared.module.Reach.{Reach}
+use Rattle.tac_ir.specs.GoodModule.{GoodModule}
 use Rattle.tac_ir.specs.Module.{Module}
 use Rattle.tac_ir.specs.Numbers.{defs_in_code}
+use Rattle.tac_ir.specs.Tables.{CanRun}
 use Rattle.flow_rules.specs.ClassOf.{ClassOf}
+use Rattle.flow_rules.specs.HasClasses.{HasClasses}
 use Rattle.flow_rules.specs.IsBuilt.{IsBuilt}
 use Rattle.flow_rules.specs.PointsTo.{PointsTo}
 use Rattle.flow_rules.specs.Reaches.{Reaches}
@@ -30,3 +33,7 @@ pub record AreTablesOf (c : Code) (points : List PointsRow) (r : Reach) (sets : 
 abbrev pub BuiltOfTables : Type 0
 BuiltOfTables = (c : Code) (points : List PointsRow) (r : Reach) (sets : List (List ℕ)) (classes : List ℕ) (all_checked made : Module)
     → AreTablesOf c points r sets classes → Instruments c points r sets classes all_checked → HasTable c r all_checked → Elides all_checked made → IsBuilt c made
+
+-- a module whose form is good and whose classes are those of its sets can run
+abbrev pub ClassedCanRun : Type 0
+ClassedCanRun = (m : Module) → GoodModule m → HasClasses m → CanRun m
